@@ -1,0 +1,5 @@
+pub mod Ids
+pub mod Json
+pub mod Raws
+pub mod Refusals
+pub mod Texts

@@ -1,0 +1,20 @@
+//! The plain values of the record service: ids, texts, raw values as JSON has them, and refusals.
+//!
+//! The layers above may rest on this: an id is read in any form of a UUID and has one printed form; a text is a
+//! list of characters, ordered by its UTF-8 bytes; bytes are JSON exactly where `serde_json` reads them; each
+//! refusal has one number and one printed form.
+#![tactic(auto)]
+
+mod id;
+mod json;
+mod kind;
+mod raw;
+mod refusal;
+mod text;
+
+pub use id::Id;
+pub use json::{JsonFault, add_member, read_json};
+pub use kind::Kind;
+pub use raw::{Raw, Values};
+pub use refusal::Refusal;
+pub use text::{Names, Text};

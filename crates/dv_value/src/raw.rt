@@ -1,0 +1,96 @@
+ghost use Rattle.std.specs.Prelude.{◌≡◌, ◌∷◌, [], ◌++◌, IfOk, OnOk, OnErr};
+ghost use Rattle.serde_json.specs.View.{view, members_view};
+ghost use Rattle.dv_value.specs.Raws.{raw_of, values_of};
+
+use crate::text::Text;
+use serde_json::{Map, Value as Json};
+use sqlite_items::Items;
+use std::alloc::{AllocError, Global};
+use std::marker::Model;
+
+/// A value as JSON has it, before a column gives it a kind: null, a truth value, an integer or a text.
+#[derive(Debug, Drop)]
+pub enum Raw {
+    Null,
+    Bool(bool),
+    Int(i64),
+    Str(Text),
+}
+
+impl Raw {
+    /// The raw value that a JSON value is. None for a list, an object, and a number that isn't an integer of 64
+    /// bits.
+    #[tactic(auto, unfolding(crate::specs::Raws::raw_of))]
+    pub fn from_json(alloc: Global, json: &Json) -> Result<Option<Raw>, AllocError>
+        ensures { IfOk result (λ raw. raw ≡ raw_of (view json.now)) }
+    {
+        match json {
+            Json::Null => Ok(Some(Raw::Null)),
+            Json::Bool(flag) => Ok(Some(Raw::Bool(*flag))),
+            Json::Number(number) => match number.as_i64() {
+                Some(n) => Ok(Some(Raw::Int(n))),
+                None => Ok(None),
+            },
+            Json::String(text) => Ok(Some(Raw::Str(Text::from_str(alloc, text.as_str())?))),
+            Json::Array(_) | Json::Object(_) => Ok(None),
+        }
+    }
+}
+
+/// Raw values under their names, each name once, in ascending byte order.
+#[derive(Debug, Drop)]
+pub struct Values {
+    items: Items<(Text, Raw)>,
+}
+
+impl Model for Values {
+    ghost use Rattle.std.specs.Prelude.{ℕ, List};
+    ghost use Rattle.dv_value.specs.declared.raw.Raw.{Raw};
+
+    ghost Value = { List (List ℕ × Raw) };
+
+    ghost view = { λ v. v.items };
+}
+
+impl Values {
+    /// No values.
+    pub fn new(alloc: Global) -> Values
+        ensures { result ≡ [] }
+    {
+        Values {
+            items: Items::new(alloc),
+        }
+    }
+
+    /// The values in the order of their names.
+    pub fn as_slice(&self) -> &[(Text, Raw)]
+        ensures { result.now ≡ self.now }
+    {
+        self.items.as_slice()
+    }
+
+    /// The values that an object's members are. None where one of them isn't a raw value.
+    pub fn from_json(
+        alloc: Global,
+        members: &Map<String, Json>,
+    ) -> Result<Option<Values>, AllocError>
+        ensures { IfOk result (λ values. values ≡ values_of (members_view members.now.entries)) }
+    {
+        let mut values = Values::new(alloc);
+        for (name, json) in members.iter() {
+            match Raw::from_json(alloc, json)? {
+                Some(value) => values.push(Text::from_str(alloc, name.as_str())?, value)?,
+                None => return Ok(None),
+            }
+        }
+        Ok(Some(values))
+    }
+
+    // Adds a value at the end.
+    fn push(&mut self, name: Text, value: Raw) -> Result<(), AllocError>
+        ensures ok { OnOk result (self.new ≡ self.old ++ (name, value) ∷ []) }
+        ensures err { OnErr result (self.new ≡ self.old) }
+    {
+        self.items.push((name, value))
+    }
+}
