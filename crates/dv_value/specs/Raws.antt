@@ -1,5 +1,6 @@
 -- A raw value is null, a truth value, an integer of 64 bits or a text.
-use Rattle.std.specs.Prelude.{ℕ, List, [], ◌∷◌, Option, Some, None, option_map, option_and_then, chars}
+use Rattle.std.specs.Prelude.{ℕ, List, [], ◌∷◌, Option, Some, None, option_map, option_and_then, chars, find}
+use Rattle.std.specs.Str.{bytes_eq}
 use Rattle.serde_json.specs.Data.{Data, null, boolean, number, string, array, object, Members, no_members, member}
 use Rattle.serde_json.specs.Find.{as_i64}
 use Rattle.dv_value.specs.declared.raw.Raw.{Raw}
@@ -18,3 +19,7 @@ raw_of (object ms) = None
 unfoldable pub values_of : Members → Option (List (List ℕ × Raw))
 values_of no_members = Some []
 values_of (member name d ms) = option_and_then (λ raw. option_map (λ values. (chars name, raw) ∷ values) (values_of ms)) (raw_of d)
+
+-- the value of a name, if there is one
+abbrev pub value_of : List ℕ → List (List ℕ × Raw) → Option Raw
+value_of name values = option_map (λ value. value.1) (find (λ value. bytes_eq value.0 name) values)

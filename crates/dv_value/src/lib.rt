@@ -11,6 +11,7 @@ mod kind;
 mod raw;
 mod refusal;
 mod text;
+mod value;
 
 pub use id::Id;
 pub use json::{JsonFault, add_member, read_json};
@@ -18,3 +19,4 @@ pub use kind::Kind;
 pub use raw::{Raw, Values};
 pub use refusal::Refusal;
 pub use text::{Names, Text};
+pub use value::Value;

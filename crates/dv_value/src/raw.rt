@@ -1,6 +1,6 @@
-ghost use Rattle.std.specs.Prelude.{◌≡◌, ◌∷◌, [], ◌++◌, IfOk, OnOk, OnErr};
+ghost use Rattle.std.specs.Prelude.{◌≡◌, ◌∷◌, [], ◌++◌, IfOk, OnOk, OnErr, chars, option_map};
 ghost use Rattle.serde_json.specs.View.{view, members_view};
-ghost use Rattle.dv_value.specs.Raws.{raw_of, values_of};
+ghost use Rattle.dv_value.specs.Raws.{raw_of, values_of, value_of};
 
 use crate::text::Text;
 use serde_json::{Map, Value as Json};
@@ -84,6 +84,16 @@ impl Values {
             }
         }
         Ok(Some(values))
+    }
+
+    /// The value of a name, if there is one.
+    pub fn get(&self, name: &str) -> Option<&Raw>
+        ensures { option_map (λ raw. raw.now) result ≡ value_of (chars name.now) self.now }
+    {
+        match self.items.as_slice().iter().find(|item| item.0.is(name)) {
+            Some(item) => Some(&item.1),
+            None => None,
+        }
     }
 
     // Adds a value at the end.

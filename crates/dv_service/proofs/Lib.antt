@@ -1,0 +1,11 @@
+pub mod Cells
+pub mod Each
+pub mod Endings
+pub mod Held
+pub mod Inputs
+pub mod Results
+pub mod Runs
+pub mod Selecting
+pub mod Splitting
+pub mod Steps
+pub mod Streams

@@ -1,0 +1,6 @@
+use Rattle.std.proofs.Common.{refl}
+use Rattle.dv_service.proofs.Held.{Held_none}
+use Rattle.dv_service.proofs.line_buffer.LineBuffer.clear.Goals as goal
+
+pub returns : goal.returns
+returns c = Held_none _ c.clear.ensures.items refl

@@ -1,0 +1,24 @@
+use Rattle.std.proofs.Common.{[], refl, sym, ◌∙◌}
+use Rattle.dv_service.specs.Lines.{lines_of}
+use Rattle.dv_service.proofs.Endings.{ending_of-NotOpened, ending_of-WriteFault, ending_of-OutOfMemory}
+use Rattle.dv_service.proofs.Runs.{Answered-unopened}
+use Rattle.dv_service.proofs.Streams.{IsUnopened-none, IsUnopened-line}
+use Rattle.dv_service.proofs.run.finish.Goals as goal
+
+pub returns-in-None-clause-not_opened : goal.returns-in-None-clause-not_opened
+returns-in-None-clause-not_opened g c = λ taken before left stands is size short at_end.
+    let none = Answered-unopened _ _ _ _ (c.in-Ok.ensures.answered taken before stands).1 c.in-None.is in
+    IsUnopened-none (lines_of taken) size left before _ none.0 (short, at_end, none.1)
+
+pub returns-in-Err-clause-not_opened : goal.returns-in-Err-clause-not_opened
+returns-in-Err-clause-not_opened g c = λ taken before left stands is size short at_end.
+    let refused = c.in-Err.ensures.refused taken before stands (rw (ending_of-NotOpened c.in-Err.stop (sym c.ending.ensures ∙ is)) refl) in
+    IsUnopened-line (lines_of taken) [] refused.0 size left before _ refused.1 refused.2 refused.3
+
+pub returns-in-Err-clause-cut : goal.returns-in-Err-clause-cut
+returns-in-Err-clause-cut g c = λ taken before stands is.
+    c.in-Err.ensures.cut taken before stands (rw (ending_of-WriteFault c.in-Err.stop (sym c.ending.ensures ∙ is)) refl)
+
+pub returns-in-Err-clause-untouched : goal.returns-in-Err-clause-untouched
+returns-in-Err-clause-untouched g c = λ taken before stands is.
+    c.in-Err.ensures.untouched taken before stands (rw (ending_of-OutOfMemory c.in-Err.stop (sym c.ending.ensures ∙ is)) refl)

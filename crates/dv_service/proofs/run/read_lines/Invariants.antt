@@ -1,0 +1,19 @@
+use Rattle.std.proofs.Common.{◌≡◌, ◌≤◌, ◌-◌, List, ℕ, length}
+use Rattle.std.specs.Io.KnownBytes.{prepend_known}
+use Rattle.dv_service.specs.Sessions.{Stands}
+use Rattle.dv_service.specs.declared.run.TheConstants.{INPUT_LIMIT}
+use Rattle.dv_service.proofs.run.read_lines.Given as goal
+
+abbrev pub invariant-loop-taken : goal.invariant-loop-taken
+invariant-loop-taken g l = record {
+  bytes : List ℕ;
+  took : g.S.Ends.left l.fn.input ≡ prepend_known bytes (g.S.Ends.left l.input);
+  count : length bytes ≡ l.taken;
+  within : l.taken ≤ INPUT_LIMIT;
+  stands : Stands l.session bytes (g.W.Ends.written l.fn.output) (g.W.Ends.written l.output);
+  read_later : g.S.Ends.read_faults l.fn.input ≤ g.S.Ends.read_faults l.input;
+  write_later : g.W.Ends.write_faults l.fn.output ≤ g.W.Ends.write_faults l.output;
+}
+
+abbrev pub decreases-loop-taken : goal.decreases-loop-taken
+decreases-loop-taken g l = INPUT_LIMIT - l.taken

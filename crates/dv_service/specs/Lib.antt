@@ -1,0 +1,11 @@
+pub mod Lines
+pub mod Members
+pub mod Definitions
+pub mod Requests
+pub mod Replies
+pub mod Serve
+pub mod Showing
+pub mod Machine
+pub mod Outcome
+pub mod Sessions
+pub mod Statuses

@@ -1,0 +1,21 @@
+-- The status that each ending of a run is told by.
+use Rattle.std.specs.Prelude.{ℕ}
+use Rattle.dv_service.specs.declared.status.Ending.{Ending}
+use Rattle.dv_service.specs.declared.status.Ending.TheVariants as ending
+use Rattle.dv_service.specs.declared.status.Stop.{Stop}
+use Rattle.dv_service.specs.declared.status.Stop.TheVariants as stop
+
+-- the number of an ending
+unfoldable pub code_of : Ending → ℕ
+code_of ending.Done = 0
+code_of ending.NotOpened = 3
+code_of ending.ReadFault = 5
+code_of ending.WriteFault = 6
+code_of ending.OutOfMemory = 9
+code_of ending.InputLimit = 10
+
+-- the ending that a line makes
+abbrev pub ending_of : Stop → Ending
+ending_of stop.NotOpened = ending.NotOpened
+ending_of stop.WriteFault = ending.WriteFault
+ending_of stop.OutOfMemory = ending.OutOfMemory

@@ -1,0 +1,70 @@
+//! The public call: the words of the command line, the input and the output.
+ghost use Rattle.std.specs.Prelude.{◌≡◌, ◌↔◌, ◌<◌, ◌⊎◌, ◌^◌, IsTrue, IfSome, length};
+ghost use Rattle.dv_base.specs.Faults.{Rose};
+ghost use Rattle.dv_service.specs.Lines.{lines_of};
+ghost use Rattle.dv_service.specs.Outcome.{AreRun, RanToEnd, IsUnopened, StoppedBetween, CutShort, IsOpened};
+
+use crate::run::run;
+use crate::status::Status;
+use dv_base::{Sink, Source};
+use std::alloc::Global;
+
+// Whether the words ask for a run.
+fn is_run(words: &[String]) -> bool
+    ensures { IsTrue result ↔ AreRun words.now }
+{
+    words.len() == 1 && words[0].as_str() == "run"
+}
+
+/// Runs the service: reads lines from `input` and writes a line to `output` for each.
+///
+/// `words` are the words after the program's name. The first line is the organisation's definition; the organisation
+/// stands in memory for this run alone. A line is answered as soon as it has ended, before more input is asked for.
+pub fn top<S: Source, W: Sink>(
+    alloc: Global,
+    words: &[String],
+    input: &mut S,
+    output: &mut W,
+) -> Status
+    // All lines of the input were answered by the machine, from its first to its last, and nothing else was written.
+    ensures finished { result.0 ≡ 0
+        → RanToEnd (S.left input.old) (S.left input.new) (W.written output.old) (W.written output.new) }
+
+    // The words are no command: nothing was read or written.
+    ensures bad_words { (result.0 ≡ 2) ↔ ¬ (AreRun words.now) }
+    ensures bad_words_read { result.0 ≡ 2 → S.left input.new ≡ S.left input.old }
+    ensures bad_words_wrote { result.0 ≡ 2 → W.written output.new ≡ W.written output.old }
+
+    // There is no definition line, or the first line isn't accepted.
+    ensures not_opened { result.0 ≡ 3 → IfSome (S.left input.old) (λ bytes.
+        IsUnopened (lines_of bytes) (length bytes) (S.left input.new) (W.written output.old) (W.written output.new)) }
+
+    // The input failed: the lines that ended in the bytes taken were answered.
+    ensures read_fault { result.0 ≡ 5 → Rose (S.read_faults input.old) (S.read_faults input.new) }
+    ensures read_stopped { result.0 ≡ 5
+        → (stopped : StoppedBetween (S.left input.old) (S.left input.new) (W.written output.old) (W.written output.new)) × (length stopped.taken < 2 ^ 40) }
+
+    // The output failed: one line's reply was cut short, and no later line was answered.
+    ensures write_fault { result.0 ≡ 6 → Rose (W.write_faults output.old) (W.write_faults output.new) }
+    ensures cut_short { result.0 ≡ 6
+        → CutShort (S.left input.old) (S.left input.new) (W.written output.old) (W.written output.new) }
+
+    // There was no memory to begin.
+    ensures out_of_memory { result.0 ≡ 9 → W.written output.new ≡ W.written output.old }
+
+    // As much input was taken as a run takes.
+    ensures input_limit { result.0 ≡ 10
+        → (stopped : StoppedBetween (S.left input.old) (S.left input.new) (W.written output.old) (W.written output.new)) × (length stopped.taken ≡ 2 ^ 40) }
+
+    // An input below the limit whose first line is a definition is read to its end, unless an end fails or memory is
+    // wanting.
+    ensures complete { AreRun words.now → ¬ Rose (S.read_faults input.old) (S.read_faults input.new)
+        → ¬ Rose (W.write_faults output.old) (W.write_faults output.new)
+        → IfSome (S.left input.old) (λ bytes. length bytes < 2 ^ 40 → IsOpened (lines_of bytes) → (result.0 ≡ 0) ⊎ (result.0 ≡ 9)) }
+{
+    if is_run(words) {
+        run(alloc, input, output).status()
+    } else {
+        Status::BAD_WORDS
+    }
+}
