@@ -7,11 +7,11 @@ use crate::faults::{Failed, FailingCall, FaultCount};
 use std::alloc::{AllocError, Global};
 use std::marker::Model;
 
-/// Room in memory for so many bytes.
+/// Room in memory for so many bytes, written from the front.
 ///
-/// A write takes the whole piece, or none of it where it is longer than what is left of the room. The sink fails there
-/// and at the one call that it was made to fail at, and never else: its room is reserved when it is made, so that a
-/// write takes no memory.
+/// A write takes the whole piece, or none of it where the piece is longer than what is left of the room. The sink fails
+/// there and at the one call that it was made to fail at, and never else: the room is reserved when the sink is made,
+/// so a write takes no memory.
 #[derive(Drop)]
 pub struct MemSink {
     bytes: Vec<u8>,
@@ -32,7 +32,7 @@ impl Model for MemSink {
 }
 
 impl MemSink {
-    /// A sink with room for `room` bytes, which never fails within it. The only error is want of memory for the room.
+    /// A sink with room for `room` bytes, which never fails within it. The error is want of memory for the room.
     pub fn new(alloc: Global, room: u64) -> Result<Self, AllocError>
         ensures written { IfOk result (λ sink. sink.written ≡ []) }
         ensures room { IfOk result (λ sink. sink.room ≡ room) }
@@ -42,8 +42,8 @@ impl MemSink {
         MemSink::failing(alloc, room, 0)
     }
 
-    /// A sink with room for `room` bytes, whose call number `failing_call` of `write` fails, counted from 1. At 0 none
-    /// fails within the room.
+    /// A sink with room for `room` bytes, whose call number `failing_call` of `write` fails too, counted from 1. At 0 no
+    /// call fails within the room. The error is want of memory for the room.
     pub fn failing(alloc: Global, room: u64, failing_call: u64) -> Result<Self, AllocError>
         ensures written { IfOk result (λ sink. sink.written ≡ []) }
         ensures room { IfOk result (λ sink. sink.room ≡ room) }
@@ -80,13 +80,13 @@ impl Ends for MemSink {
 impl Sink for MemSink {
     fn write(&mut self, bytes: &[u8]) -> Result<usize, Failed>
         ensures fails { IsErr result ↔ ((self.old.failing_call ≡ 1) ⊎ (self.old.room < length (self.old.written ++ bytes.now))) }
-        ensures plan { self.new.failing_call ≡ self.old.failing_call - 1 }
+        ensures failing_call { self.new.failing_call ≡ self.old.failing_call - 1 }
         ensures room { self.new.room ≡ self.old.room }
         ensures whole { IfOk result (λ n. n ≡ length bytes.now) }
-        ensures appended { OnOk result (self.new.written ≡ self.old.written ++ bytes.now) }
+        ensures taken { OnOk result (self.new.written ≡ self.old.written ++ bytes.now) }
         ensures kept { OnErr result (self.new.written ≡ self.old.written) }
         ensures cause { HasCause self.old.faults self.new.faults result }
-        ensures sound { OnOk result (self.new.faults ≡ self.old.faults) }
+        ensures no_fault { OnOk result (self.new.faults ≡ self.old.faults) }
         ensures fault { OnErr result (self.new.faults ≡ raised self.old.faults) }
     {
         if self.failing_call.is_now() || bytes.len() > self.room - self.bytes.len() {

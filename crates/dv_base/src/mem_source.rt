@@ -67,12 +67,12 @@ impl Ends for MemSource {
 impl Source for MemSource {
     fn read(&mut self, buf: &mut [u8]) -> Result<usize, Failed>
         ensures fails { IsErr result ↔ (self.old.failing_call ≡ 1) }
-        ensures plan { self.new.failing_call ≡ self.old.failing_call - 1 }
+        ensures failing_call { self.new.failing_call ≡ self.old.failing_call - 1 }
         ensures count { IfOk result (λ n. n ≡ min (length self.old.left) (length buf.new)) }
-        ensures moved { IfOk result (λ n. self.old.left ≡ take n buf.new ++ self.new.left) }
-        ensures unmoved { OnErr result (self.new.left ≡ self.old.left) }
+        ensures taken { IfOk result (λ n. self.old.left ≡ take n buf.new ++ self.new.left) }
+        ensures kept { OnErr result (self.new.left ≡ self.old.left) }
         ensures cause { HasCause self.old.faults self.new.faults result }
-        ensures sound { OnOk result (self.new.faults ≡ self.old.faults) }
+        ensures no_fault { OnOk result (self.new.faults ≡ self.old.faults) }
         ensures fault { OnErr result (self.new.faults ≡ raised self.old.faults) }
     {
         if self.failing_call.is_now() {

@@ -54,6 +54,19 @@ fn a_failing_sink_fails_at_its_call_alone(rt: HostRuntime) -> Result<(), Fail> {
     Ok(())
 }
 
+// Each `unwrap` is proved: the contracts say that these calls don't fail.
+#[test]
+fn ends_in_memory_are_proved_not_to_fail_unasked(rt: HostRuntime) -> Result<(), Fail> {
+    let mut source = MemSource::new(b"abc".to_vec(rt.alloc())?);
+    let mut buffer = [0; 2];
+    assert_eq!(rt; source.read(&mut buffer).unwrap(), 2);
+    assert_eq!(rt; source.read(&mut buffer).unwrap(), 1);
+    let mut sink = MemSink::new(rt.alloc(), 4)?;
+    assert_eq!(rt; sink.write(b"ab").unwrap(), 2);
+    assert_eq!(rt; sink.write(b"cd").unwrap(), 2);
+    Ok(())
+}
+
 // A sink that takes at most two bytes at a time.
 #[derive(Drop)]
 struct NarrowSink {
