@@ -10,7 +10,7 @@ use crate::faults::Failed;
 /// What an end of a stream tells of itself, as a source and as a sink.
 ///
 /// An object that is one of the two alone tells constants of the other side. What is left and what was written is
-/// `None` where the object doesn't tell; an object that tells goes on telling, and one that doesn't never begins to.
+/// `None` where the object doesn't tell. An object that tells goes on telling, and one that doesn't never begins to.
 pub trait Ends {
     /// The bytes that are still to be read.
     ghost left: { Self → Option (List ℕ) };
@@ -18,10 +18,10 @@ pub trait Ends {
     /// The bytes that were written so far.
     ghost written: { Self → Option (List ℕ) };
 
-    /// How often the object failed as a source, at most 2^64 - 1. The count never falls.
+    /// How often the object failed as a source. The count never falls, and stands still at 2^64 - 1.
     ghost read_faults: { Self → ℕ };
 
-    /// How often the object failed as a sink, at most 2^64 - 1. The count never falls.
+    /// How often the object failed as a sink. The count never falls, and stands still at 2^64 - 1.
     ghost write_faults: { Self → ℕ };
 }
 

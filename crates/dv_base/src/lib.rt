@@ -8,8 +8,19 @@
 
 mod ends;
 mod faults;
+mod mem_sink;
+mod mem_source;
 mod sending;
+mod std_sink;
+mod std_source;
 
 pub use ends::{Ends, Sink, Source};
 pub use faults::Failed;
+pub use mem_sink::MemSink;
+pub use mem_source::MemSource;
 pub use sending::send;
+pub use std_sink::StdSink;
+pub use std_source::StdSource;
+
+#[cfg(test)]
+mod tests;
