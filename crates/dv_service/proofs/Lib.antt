@@ -1,4 +1,5 @@
 pub mod Cells
+pub mod Complete
 pub mod Each
 pub mod Endings
 pub mod Held
