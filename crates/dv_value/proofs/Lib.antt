@@ -1,2 +1,3 @@
+pub mod Printing
 pub mod Raws
 pub mod Utf8
