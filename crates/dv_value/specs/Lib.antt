@@ -4,4 +4,5 @@ pub mod Printed
 pub mod Raws
 pub mod Refusals
 pub mod Texts
+pub mod Tokens
 pub mod Whats

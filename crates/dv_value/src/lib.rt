@@ -12,6 +12,7 @@ mod printed;
 mod raw;
 mod refusal;
 mod text;
+mod token;
 mod what;
 
 pub use id::Id;
@@ -21,4 +22,5 @@ pub use printed::version_json;
 pub use raw::{Raw, Values};
 pub use refusal::Refusal;
 pub use text::{Names, Text};
+pub use token::{Token, read_version};
 pub use what::What;
