@@ -1,13 +1,12 @@
-// A library with one function.
+//! Requests and replies as plain data: what a caller asks of the organisation, and what it is told.
+//!
+//! The layers above may rest on this: there is one variant for each message and for each form of reply, and its
+//! fields are the members that the message or the reply has as JSON, read to the types of the values.
 #![tactic(auto)]
 
-ghost use Rattle.std.specs.Prelude.{◌≡◌};
-ghost use Rattle.dv_request.specs.Echo.{echo_of};
+mod reply;
+mod request;
 
-// The `ensures` clause is the contract: what `echo` returns is `echo_of` of its argument, a definition
-// in `specs/Echo.antt`, which a caller's clause can cite too.
-pub fn echo(x: usize) -> usize
-    ensures { result ≡ echo_of x }
-{
-    x
-}
+pub use dv_value::Refusal;
+pub use reply::{Change, Reply, Share};
+pub use request::Request;
