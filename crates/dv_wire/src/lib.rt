@@ -1,13 +1,10 @@
-// A library with one function.
+//! The text of requests and replies: JSON, a line each.
+//!
+//! The layer above may rest on this: a reply is printed as exactly the compact JSON that it stands for, which reads
+//! back to the same value.
 #![tactic(auto)]
 
-ghost use Rattle.std.specs.Prelude.{◌≡◌};
-ghost use Rattle.dv_wire.specs.Echo.{echo_of};
+mod members;
+mod printing;
 
-// The `ensures` clause is the contract: what `echo` returns is `echo_of` of its argument, a definition
-// in `specs/Echo.antt`, which a caller's clause can cite too.
-pub fn echo(x: usize) -> usize
-    ensures { result ≡ echo_of x }
-{
-    x
-}
+pub use printing::print_reply;
