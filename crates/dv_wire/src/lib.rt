@@ -4,7 +4,8 @@
 //! back to the same value.
 #![tactic(auto)]
 
-mod members;
+mod member;
+mod object;
 mod printing;
 
 pub use printing::print_reply;

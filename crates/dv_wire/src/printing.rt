@@ -6,7 +6,7 @@ ghost use Rattle.serde_json.specs.Written.{has_float, compact_text};
 ghost use Rattle.dv_value.specs.Printed.{values_data};
 ghost use Rattle.dv_wire.specs.Printed.{reply_data, share_data, change_data, page_members, changes_members, rolled_members, caller_members, refused_data};
 
-use crate::members::{count_or_null, flag_or_null, ids_json, one_member, succeeded, words_or_null};
+use crate::object::{count_or_null, flag_or_null, ids_json, one_member, succeeded, words_or_null};
 use dv_request::{Change, Refusal, Reply, Share};
 use dv_value::{Id, Raw, Token, Values, add_member, version_json};
 use serde_json::{Map, Value as Json};
