@@ -1,2 +1,4 @@
+pub mod DeepLaws
 pub mod Floats
 pub mod Lists
+pub mod QueryLaws

@@ -32,9 +32,13 @@ id_at name d = unwrap_or (id_if name d) (record { 0 = 0 })
 unfoldable pub flag_at : List ℕ → Data → Bool
 flag_at name d = unwrap_or (option_and_then as_bool (get name d)) false
 
+-- the integer
+unfoldable pub integer_if : List ℕ → Data → Option ℤ
+integer_if name d = option_and_then as_i64 (option_and_then as_number (get name d))
+
 -- the integer; one that is missing has a default
-unfoldable pub integer_or : ℤ → List ℕ → Data → ℤ
-integer_or default name d = unwrap_or (option_and_then as_i64 (option_and_then as_number (get name d))) default
+abbrev pub integer_or : ℤ → List ℕ → Data → ℤ
+integer_or default name d = unwrap_or (integer_if name d) default
 
 -- the version
 unfoldable pub version_if : List ℕ → Data → Option ℕ

@@ -7,5 +7,6 @@
 mod member;
 mod object;
 mod printing;
+mod querying;
 
 pub use printing::print_reply;

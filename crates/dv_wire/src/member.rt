@@ -65,12 +65,19 @@ pub(crate) fn flag_at(json: &Json, name: &str) -> bool
     json.get(name).and_then(Json::as_bool).unwrap_or(false)
 }
 
+// The integer of a member that may be missing.
+#[tactic(auto, unfolding(crate::specs::Members::integer_if))]
+pub(crate) fn integer_if(json: &Json, name: &str) -> Option<i64>
+    ensures { result ≡ say.integer_if name.now (view json.now) }
+{
+    json.get(name)?.as_i64()
+}
+
 // The integer of a member, with a default where it is missing.
-#[tactic(auto, unfolding(crate::specs::Members::integer_or))]
 pub(crate) fn integer_or(default: i64, json: &Json, name: &str) -> i64
     ensures { result ≡ say.integer_or default name.now (view json.now) }
 {
-    json.get(name).and_then(Json::as_i64).unwrap_or(default)
+    integer_if(json, name).unwrap_or(default)
 }
 
 // The version of a member that may be missing.
