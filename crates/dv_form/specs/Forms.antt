@@ -22,7 +22,7 @@ pub data Form (R : Type 0) : Type 0 where
   object_of : R → Form R
   tuple_of : List Spelling → Form R
   list_of : Form R → Option ℕ → Form R
-  distinct_integers : ℤ → ℤ → Form R
+  distinct_integers : Form R
 
 -- what keeps a member from being given: another member is given, is a word, isn't an integer, or is the same id
 pub data Bar : Type 0 where

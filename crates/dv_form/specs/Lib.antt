@@ -1,5 +1,6 @@
 pub mod Forms
 pub mod Found
+pub mod Integers
 pub mod Members
 pub mod Places
 pub mod Spellings

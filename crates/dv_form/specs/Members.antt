@@ -1,7 +1,7 @@
 -- What is read of a JSON value: an id, a text, a flag or an integer that it is, or that the member of a name is.
-use Rattle.std.specs.Prelude.{ℕ, ℤ, List, Bool, Option, None, option_map, option_and_then, chars}
-use Rattle.serde_json.specs.Data.{Data, null, boolean, number, string, array, object, Members, no_members, Items, no_items, item}
-use Rattle.serde_json.specs.Find.{get, as_str, as_bool, as_number, as_i64}
+use Rattle.std.specs.Prelude.{ℕ, ℤ, List, Option, option_map, option_and_then, chars}
+use Rattle.serde_json.specs.Data.{Data, null, boolean, number, string, array, object, Members, no_members}
+use Rattle.serde_json.specs.Find.{as_str, as_number, as_i64}
 use Rattle.dv_value.specs.Ids.{id_of}
 use Rattle.dv_value.specs.declared.id.Id.{Id}
 

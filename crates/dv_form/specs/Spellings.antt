@@ -1,5 +1,5 @@
 -- What each spelling admits.
-use Rattle.std.specs.Prelude.{ℕ, ℤ, List, [], ◌∷◌, ◌==◌, ◌&&◌, ◌||◌, Bool, true, false, not, nat_le, int_le, length, codes, Option, Some, None}
+use Rattle.std.specs.Prelude.{ℕ, ℤ, pos, negsuc, List, [], ◌∷◌, ◌==◌, ◌&&◌, ◌||◌, Bool, false, not, nat_le, int_le, length, codes, Option, Some, None}
 use Rattle.std.specs.Char.{is_ascii_lowercase, is_ascii_digit}
 use Rattle.std.specs.List.{list_any, list_all}
 use Rattle.std.specs.Option.{is_some}
@@ -8,7 +8,6 @@ use Rattle.std.specs.Str.{bytes_eq}
 use Rattle.serde_json.specs.Data.{Data}
 use Rattle.serde_json.specs.Find.{as_str, as_bool}
 use Rattle.dv_value.specs.Raws.{raw_of}
-use Rattle.dv_value.specs.declared.id.Id.{Id}
 use Rattle.dv_form.specs.Forms.{Spelling, any_id, real_id, a_name, a_name_or_star, any_text, a_flag, any_integer, integer_from, integer_among, word_among, any_raw}
 use Rattle.dv_form.specs.Members.{id_in, integer_in}
 
@@ -29,6 +28,14 @@ is_name (c ∷ cs) = is_ascii_lowercase c && (nat_le (length cs) 49 && list_all 
 -- both ends are included
 unfoldable pub is_between : ℤ → ℤ → ℤ → Bool
 is_between low high n = int_le low n && int_le n high
+
+-- an integer of 32 bits
+abbrev pub is_short : ℤ → Bool
+is_short n = is_between (negsuc 2147483647) (pos 2147483647) n
+
+-- whether a value is this integer
+unfoldable pub is_integer : ℤ → Data → Bool
+is_integer n d = passes (λ m. int_eq m n) (integer_in d)
 
 -- the word is one of these
 unfoldable pub is_among : List (List ℕ) → List ℕ → Bool

@@ -1,5 +1,5 @@
 -- What the tables of the code say, their references read.
-use Rattle.std.specs.Prelude.{ℕ, ℤ, List, map, Option, option_map}
+use Rattle.std.specs.Prelude.{map, option_map}
 use Rattle.dv_form.specs.Forms as plain
 use Rattle.dv_form.specs.declared.spelling.Spelling.{Spelling}
 use Rattle.dv_form.specs.declared.spelling.Spelling.TheVariants.{Id, RealId, Name, NameOrStar, Text, Flag, Integer, IntegerFrom, IntegerAmong, WordAmong, Raw}
@@ -32,7 +32,7 @@ form_of (Tuple ss) = plain.tuple_of (map spelling_of ss.now)
 form_of (Values s most) = plain.list_of (plain.value (spelling_of s)) most
 form_of (Objects r most) = plain.list_of (plain.object_of r) most
 form_of (Tuples ss most) = plain.list_of (plain.tuple_of (map spelling_of ss.now)) most
-form_of (DistinctIntegers low high) = plain.distinct_integers low high
+form_of DistinctIntegers = plain.distinct_integers
 
 abbrev pub bar_of : Bar → plain.Bar
 bar_of (Given name) = plain.given name.now

@@ -1,19 +1,18 @@
 -- The first fault of a value, by this walk: in an object, first the members that its table doesn't list, in byte order; then the members of the table in its order, each missing, barred or not of its form, and inside each one its own parts. Where a member says by a word what further members there are, and it is missing or isn't one of the words, no member is unlisted, and only the members that don't hang on it are looked at.
-use Rattle.std.specs.Prelude.{ℕ, suc, ℤ, List, [], ◌∷◌, ◌==◌, ◌||◌, Bool, true, false, not, nat_lt, length, if◌then◌else◌, Option, Some, None, option_map, option_and_then, unwrap_or}
+use Rattle.std.specs.Prelude.{ℕ, suc, List, [], ◌∷◌, ◌==◌, ◌&&◌, ◌||◌, Bool, false, not, nat_lt, length, if◌then◌else◌, Option, Some, None, option_map, option_and_then}
 use Rattle.std.specs.List.{list_any}
 use Rattle.std.specs.Option.{option_or, is_some}
-use Rattle.std.specs.Ordering.{int_eq, nat_cmp, match_ordering}
+use Rattle.std.specs.Ordering.{nat_cmp, match_ordering}
 use Rattle.std.specs.Cmp.Lexicographic.{slice_cmp}
 use Rattle.std.specs.Str.{bytes_eq}
 use Rattle.serde_json.specs.Data.{Data, null, boolean, number, string, array, object, Items, no_items, item, Members, no_members, member}
 use Rattle.serde_json.specs.Events.{items_len}
 use Rattle.serde_json.specs.Find.{get, as_str, as_array, as_object}
 use Rattle.dv_value.specs.Raws.{raw_of}
-use Rattle.dv_value.specs.declared.id.Id.{Id}
 use Rattle.dv_form.specs.Forms.{Spelling, Form, value, raw_values, object_of, tuple_of, list_of, distinct_integers, Bar, given, is_word, is_not_integer, is_same_id, Member, Case, Object}
 use Rattle.dv_form.specs.Members.{id_in, integer_in, members_in}
 use Rattle.dv_form.specs.Places.{Step, into_member, into_item}
-use Rattle.dv_form.specs.Spellings.{passes, is_between, is_spelled}
+use Rattle.dv_form.specs.Spellings.{passes, is_short, is_integer, is_spelled}
 use Rattle.dv_form.specs.declared.fault.FaultKind.{FaultKind}
 use Rattle.dv_form.specs.declared.fault.FaultKind.TheVariants.{Unlisted, Wrong, TooLong}
 
@@ -49,25 +48,25 @@ spelled_items_fault (s ∷ ss) i (item d ds) = if is_spelled s d then spelled_it
 unfoldable pub tuple_fault : List Spelling → Items → Option Found
 tuple_fault ss ds = if items_len ds == length ss then spelled_items_fault ss 0 ds else Some (here Wrong)
 
--- an integer of this range that wasn't there before
-unfoldable pub is_new_integer : ℤ → ℤ → List ℤ → Data → Bool
-is_new_integer low high before d = passes (λ n. if list_any (λ m. int_eq m n) before then false else is_between low high n) (integer_in d)
+-- whether a value is an integer of 32 bits that none of the earlier values is
+unfoldable pub is_new_integer : List Data → Data → Bool
+is_new_integer earlier d = passes (λ n. is_short n && not (list_any (is_integer n) earlier)) (integer_in d)
 
--- the items from number i on, after these integers
-unfoldable pub new_integers_fault : ℤ → ℤ → List ℤ → ℕ → Items → Option Found
-new_integers_fault low high before i no_items = None
-new_integers_fault low high before i (item d ds) = if is_new_integer low high before d then new_integers_fault low high (unwrap_or (integer_in d) low ∷ before) (suc i) ds else Some (inside (into_item i) (here Wrong))
+-- the items from number i on, after the earlier ones
+unfoldable pub new_integers_fault : List Data → ℕ → Items → Option Found
+new_integers_fault earlier i no_items = None
+new_integers_fault earlier i (item d ds) = if is_new_integer earlier d then new_integers_fault (d ∷ earlier) (suc i) ds else Some (inside (into_item i) (here Wrong))
 
--- a nonempty list of integers of this range, each there once
-unfoldable pub distinct_fault : ℤ → ℤ → Items → Option Found
-distinct_fault low high no_items = Some (here Wrong)
-distinct_fault low high (item d ds) = new_integers_fault low high [] 0 (item d ds)
+-- a nonempty list of integers of 32 bits, no two of them equal
+unfoldable pub distinct_fault : Items → Option Found
+distinct_fault no_items = Some (here Wrong)
+distinct_fault (item d ds) = new_integers_fault [] 0 (item d ds)
 
 -- whether a member of an object is barred by another one
 unfoldable pub is_barred_by : Data → Data → Bar → Bool
 is_barred_by d own (given name) = is_some (get name d)
 is_barred_by d own (is_word name word) = passes (λ s. bytes_eq s word) (option_and_then as_str (get name d))
-is_barred_by d own (is_not_integer name n) = not (passes (λ m. int_eq m n) (option_and_then integer_in (get name d)))
+is_barred_by d own (is_not_integer name n) = not (passes (is_integer n) (get name d))
 is_barred_by d own (is_same_id name) = passes (λ id. passes (λ other. id.0 == other.0) (option_and_then id_in (get name d))) (id_in own)
 
 -- whether one of the bars of a member holds
@@ -79,9 +78,14 @@ unfoldable pub case_of : {R : Type 0} → List ℕ → List (Case R) → Option 
 case_of word [] = None
 case_of word (c ∷ cs) = if bytes_eq c.word word then Some c.members else case_of word cs
 
+-- the further members under the word at a name, where it is one of the words; none where no name decides
+unfoldable pub decided : {R : Type 0} → Option (List ℕ) → List (Case R) → Data → Option (List (Member R))
+decided None cases d = Some []
+decided (Some name) cases d = option_and_then (λ word. case_of word cases) (option_and_then as_str (get name d))
+
 -- the further members of an object, where the member that decides on them is one of the words
-unfoldable pub further : {R : Type 0} → Object R → Data → Option (List (Member R))
-further table d = elim table.decided_by [ None ↦ Some [] | Some name ↦ option_and_then (λ word. case_of word table.cases) (option_and_then as_str (get name d)) ]
+abbrev pub further : {R : Type 0} → Object R → Data → Option (List (Member R))
+further table d = decided table.decided_by table.cases d
 
 -- whether a table lists a name
 unfoldable pub is_listed : {R : Type 0} → List (Member R) → List ℕ → Bool
@@ -92,24 +96,28 @@ unfoldable pub unlisted_fault : {R : Type 0} → List (Member R) → List (Membe
 unlisted_fault members more no_members = None
 unlisted_fault members more (member name d ms) = if is_listed members name || is_listed more name then unlisted_fault members more ms else Some (inside (into_member name) (here Unlisted))
 
+-- a member of a table that isn't there, or with what is wrong with its value
+unfoldable pub judged_member : {R : Type 0} → Data → Member R → Option (Option Found) → Option Found
+judged_member d m None = if m.needed then Some (inside (into_member m.name) (here Wrong)) else None
+judged_member d m (Some fault) = if is_barred d m then Some (inside (into_member m.name) (here Wrong)) else option_map (inside (into_member m.name)) fault
+
 -- a member of a table, given what is wrong with the value that the object has under a name
-unfoldable pub member_fault : {R : Type 0} → Data → (List ℕ → Form R → Option (Option Found)) → Member R → Option Found
-member_fault d look m = elim (look m.name m.form) [
-  | None ↦ if m.needed then Some (inside (into_member m.name) (here Wrong)) else None
-  | Some fault ↦ if is_barred d m then Some (inside (into_member m.name) (here Wrong)) else option_map (inside (into_member m.name)) fault
-]
+abbrev pub member_fault : {R : Type 0} → Data → (List ℕ → Form R → Option (Option Found)) → Member R → Option Found
+member_fault d look m = judged_member d m (look m.name m.form)
 
 -- the members of a table in its order
 unfoldable pub members_fault : {R : Type 0} → Data → (List ℕ → Form R → Option (Option Found)) → List (Member R) → Option Found
 members_fault d look [] = None
 members_fault d look (m ∷ members) = option_or (member_fault d look m) (members_fault d look members)
 
+-- an object against the members of its table, and the further ones if they are known
+unfoldable pub judged_object : {R : Type 0} → List (Member R) → Option (List (Member R)) → Data → (List ℕ → Form R → Option (Option Found)) → Option Found
+judged_object members None d look = members_fault d look members
+judged_object members (Some more) d look = option_or (unlisted_fault members more (members_in d)) (option_or (members_fault d look members) (members_fault d look more))
+
 -- an object against its table
-unfoldable pub object_fault : {R : Type 0} → Object R → Data → (List ℕ → Form R → Option (Option Found)) → Option Found
-object_fault table d look = elim (further table d) [
-  | None ↦ members_fault d look table.members
-  | Some more ↦ option_or (unlisted_fault table.members more (members_in d)) (option_or (members_fault d look table.members) (members_fault d look more))
-]
+abbrev pub object_fault : {R : Type 0} → Object R → Data → (List ℕ → Form R → Option (Option Found)) → Option Found
+object_fault table d look = judged_object table.members (further table d) d look
 
 -- whether a list is longer than it may be
 unfoldable pub is_over : Option ℕ → ℕ → Bool
@@ -123,7 +131,7 @@ form_fault tables d each look raw_values = elim (as_object d) [ None ↦ Some (h
 form_fault tables d each look (object_of r) = if is_some (as_object d) then object_fault (tables r) d look else Some (here Wrong)
 form_fault tables d each look (tuple_of ss) = elim (as_array d) [ None ↦ Some (here Wrong) | Some ds ↦ tuple_fault ss ds ]
 form_fault tables d each look (list_of form most) = elim (as_array d) [ None ↦ Some (here Wrong) | Some ds ↦ if is_over most (items_len ds) then Some (here TooLong) else each form ]
-form_fault tables d each look (distinct_integers low high) = elim (as_array d) [ None ↦ Some (here Wrong) | Some ds ↦ distinct_fault low high ds ]
+form_fault tables d each look distinct_integers = elim (as_array d) [ None ↦ Some (here Wrong) | Some ds ↦ distinct_fault ds ]
 
 -- a value has no items, or no members
 abbrev pub no_item : {R : Type 0} → Form R → Option Found

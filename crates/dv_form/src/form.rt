@@ -20,8 +20,8 @@ pub enum Form<R> {
     Objects(R, Option<usize>),
     /// A list of tuples, at most so many.
     Tuples(&'static [Spelling], Option<usize>),
-    /// A list of at least one integer from the first to the second, both included, no two of them equal.
-    DistinctIntegers(i64, i64),
+    /// A list of at least one integer of 32 bits, no two of them equal.
+    DistinctIntegers,
 }
 
 /// What keeps a member from being given beside another member of its object.

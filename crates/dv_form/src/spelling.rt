@@ -83,7 +83,7 @@ ghost use Rattle.std.specs.Prelude.{map};
 
 impl Spelling {
     /// Whether a value is spelled so.
-    #[tactic(auto, unfolding(crate::specs::Spellings::is_spelled, crate::specs::Spellings::is_between))]
+    #[tactic(auto, unfolding(crate::specs::Spellings::is_spelled))]
     pub(crate) fn admits(&self, json: &Json) -> bool
         ensures { result ≡ say.is_spelled (spelling_of self.now) (view json.now) }
     {
@@ -105,7 +105,7 @@ impl Spelling {
             Spelling::Flag => json.is_boolean(),
             Spelling::Integer => integer_in(json).is_some(),
             Spelling::IntegerFrom(low, high) => match integer_in(json) {
-                Some(n) => *low <= n && n <= *high,
+                Some(n) => is_between(*low, *high, n),
                 None => false,
             },
             Spelling::IntegerAmong(among) => match integer_in(json) {
@@ -119,6 +119,14 @@ impl Spelling {
             Spelling::Raw => is_raw(json),
         }
     }
+}
+
+/// Whether an integer is from one to another, both included.
+#[tactic(auto, unfolding(crate::specs::Spellings::is_between))]
+pub(crate) fn is_between(low: i64, high: i64, n: i64) -> bool
+    ensures { result ≡ say.is_between low high n }
+{
+    low <= n && n <= high
 }
 
 ghost use Rattle.std.specs.Option.{is_some};

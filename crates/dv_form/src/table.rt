@@ -15,7 +15,7 @@ use serde_json::Value as Json;
 use std::alloc::{AllocError, Global};
 
 /// The further members of an object. None where the member that decides on them isn't one of the words.
-#[tactic(auto, unfolding(crate::specs::Walk::further))]
+#[tactic(auto, unfolding(crate::specs::Walk::decided))]
 pub(crate) fn further<R: 'static>(json: &Json, table: &Table<R>) -> Option<&'static [Member<R>]>
     ensures { option_map (λ members. map plain.member_of members.now) result ≡ walk.further (plain.table_of table.now) (view json.now) }
 {
@@ -54,15 +54,30 @@ pub(crate) fn unlisted_fault<R>(
     };
     for (name, _) in given.iter() {
         let name = name.as_str();
-        if !is_listed(members, name) && !is_listed(more, name) {
+        if !is_in_either(members, more, name) {
             return Ok(Some(Found::here(alloc, FaultKind::Unlisted).inside_member(alloc, name)?));
         }
     }
     Ok(None)
 }
 
+// Whether one of two lists has a name.
+fn is_in_either<R>(members: &[Member<R>], more: &[Member<R>], name: &str) -> bool
+    ensures { result ≡ (walk.is_listed (map plain.member_of members.now) name.now || walk.is_listed (map plain.member_of more.now) name.now) }
+{
+    is_listed(members, name) || is_listed(more, name)
+}
+
 // Whether a table lists a name.
+#[tactic(auto, using(crate::proofs::Faults::list_any_map), unfolding(crate::specs::Walk::is_listed))]
 fn is_listed<R>(members: &[Member<R>], name: &str) -> bool
+    ensures { result ≡ walk.is_listed (map plain.member_of members.now) name.now }
+{
+    has_name(members, name)
+}
+
+// Whether one of the lines has a name.
+fn has_name<R>(members: &[Member<R>], name: &str) -> bool
     ensures { result ≡ list_any (λ m. bytes_eq m.name.now name.now) members.now }
 {
     members.iter().any(|member| member.name == name)
@@ -104,7 +119,7 @@ ghost use Rattle.std.specs.Prelude.{◌==◌, option_and_then};
 ghost use Rattle.std.specs.Ordering.{int_eq};
 ghost use Rattle.serde_json.specs.Find.{get, as_str};
 ghost use Rattle.dv_form.specs.Members as say;
-ghost use Rattle.dv_form.specs.Spellings.{passes};
+ghost use Rattle.dv_form.specs.Spellings.{passes, is_integer};
 
 // Whether the member of a name is this word.
 fn has_word(json: &Json, name: &str, word: &str) -> bool
@@ -117,11 +132,12 @@ fn has_word(json: &Json, name: &str, word: &str) -> bool
 }
 
 // Whether the member of a name is this integer.
+#[tactic(auto, unfolding(crate::specs::Spellings::is_integer))]
 fn has_integer(json: &Json, name: &str, n: i64) -> bool
-    ensures { result ≡ passes (λ m. int_eq m n) (option_and_then say.integer_in (get name.now (view json.now))) }
+    ensures { result ≡ passes (is_integer n) (get name.now (view json.now)) }
 {
-    match json.get(name).and_then(integer_in) {
-        Some(m) => m == n,
+    match json.get(name) {
+        Some(value) => integer_in(value) == Some(n),
         None => false,
     }
 }

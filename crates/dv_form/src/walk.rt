@@ -66,8 +66,8 @@ fn value_fault<G: Grammar>(
             &Form::Tuple(spellings),
             *most,
         ),
-        Form::DistinctIntegers(low, high) => match json.as_array() {
-            Some(items) => distinct_fault(alloc, items.as_slice(), *low, *high),
+        Form::DistinctIntegers => match json.as_array() {
+            Some(items) => distinct_fault(alloc, items.as_slice()),
             None => Ok(wrong_unless(alloc, false)),
         },
     }
@@ -85,10 +85,11 @@ fn list_fault<G: Grammar>(
 {
     match json.as_array() {
         Some(items) => {
+            let items = items.as_slice();
             if is_over(most, items.len()) {
                 return Ok(Some(Found::here(alloc, FaultKind::TooLong)));
             }
-            items_fault(alloc, items.as_slice(), form)
+            items_fault(alloc, items, form)
         }
         None => Ok(wrong_unless(alloc, false)),
     }

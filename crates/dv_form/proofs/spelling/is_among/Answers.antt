@@ -1,4 +1,4 @@
-use Rattle.std.proofs.Common.{◌≡◌, ◌∙◌, sym, refl, ap, ℕ, ◌||◌, List, [], ◌∷◌, map, Bor, bytes_eq}
+use Rattle.std.proofs.Common.{◌≡◌, ◌∙◌, refl, ap, ℕ, ◌||◌, List, [], ◌∷◌, map, Bor, bytes_eq}
 use Rattle.std.specs.List.{list_any}
 use Rattle.dv_form.specs.Spellings.{is_among}
 use Rattle.dv_form.proofs.spelling.is_among.Goals as goal

@@ -24,10 +24,10 @@ decreases-members_fault g l = 4 * depth (view l.json.now) + 1
 abbrev pub decreases-member_fault : goal.decreases-member_fault
 decreases-member_fault g l = 4 * depth (view l.json.now)
 
-abbrev pub invariant-loop-at : goal.invariant-loop-at
-invariant-loop-at g l = walk.items_fault g.G.Grammar.tables (items_view (drop l.at l.items)) l.at (form_of l.form)
+abbrev pub invariant-items_fault-loop-at : goal.invariant-items_fault-loop-at
+invariant-items_fault-loop-at g l = walk.items_fault g.G.Grammar.tables (items_view (drop l.at l.items)) l.at (form_of l.form)
     ≡ walk.items_fault g.G.Grammar.tables (items_view l.items) 0 (form_of l.form)
 
-abbrev pub invariant-loop-member : goal.invariant-loop-member
-invariant-loop-member g l = walk.members_fault (view l.json) (walk.fault_at g.G.Grammar.tables (members_in (view l.json))) (map member_of (drop l.member-index l.members))
+abbrev pub invariant-members_fault-loop-member : goal.invariant-members_fault-loop-member
+invariant-members_fault-loop-member g l = walk.members_fault (view l.json) (walk.fault_at g.G.Grammar.tables (members_in (view l.json))) (map member_of (drop l.member-index l.members))
     ≡ walk.members_fault (view l.json) (walk.fault_at g.G.Grammar.tables (members_in (view l.json))) (map member_of l.members)
