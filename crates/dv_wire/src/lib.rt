@@ -4,6 +4,7 @@
 //! back to the same value.
 #![tactic(auto)]
 
+mod grammar;
 mod member;
 mod object;
 mod printing;
