@@ -8,6 +8,9 @@ mod grammar;
 mod member;
 mod object;
 mod printing;
+mod privileges;
 mod querying;
+mod reading;
+mod verb;
 
 pub use printing::print_reply;
