@@ -15,7 +15,7 @@ pub(crate) fn str_at<'a>(json: &'a Json, name: &str) -> Option<&'a str>
 }
 
 // The empty text.
-fn empty_text(alloc: Global) -> Text
+pub(crate) fn empty_text(alloc: Global) -> Text
     ensures { result ≡ [] }
 {
     Text::from_string(String::new(alloc))
