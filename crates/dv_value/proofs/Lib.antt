@@ -1,2 +1,4 @@
+pub mod Printing
 pub mod Raws
 pub mod Utf8
+pub mod Versions

@@ -8,15 +8,21 @@
 mod id;
 mod json;
 mod kind;
+mod printed;
 mod raw;
 mod refusal;
 mod text;
+mod token;
 mod value;
+mod what;
 
 pub use id::Id;
 pub use json::{JsonFault, add_member, read_json};
 pub use kind::Kind;
+pub use printed::version_json;
 pub use raw::{Raw, Values};
 pub use refusal::Refusal;
 pub use text::{Names, Text};
+pub use token::{Token, read_version};
 pub use value::Value;
+pub use what::What;

@@ -1,0 +1,52 @@
+-- What a JSON value may be asked to look like: the spelling of a value without parts, and the table of an object's members.
+use Rattle.std.specs.Prelude.{ℕ, ℤ, List, Bool, Option}
+
+-- how a value without parts is spelled
+pub data Spelling : Type 0 where
+  any_id : Spelling
+  real_id : Spelling
+  a_name : Spelling
+  a_name_or_star : Spelling
+  any_text : Spelling
+  a_flag : Spelling
+  any_integer : Spelling
+  integer_from : ℤ → ℤ → Spelling
+  integer_among : List ℤ → Spelling
+  word_among : List (List ℕ) → Spelling
+  any_raw : Spelling
+  a_version : Spelling
+  a_token : Spelling
+
+-- what a value looks like; an R names the table of an object
+pub data Form (R : Type 0) : Type 0 where
+  value : Spelling → Form R
+  raw_values : Form R
+  object_of : R → Form R
+  tuple_of : List Spelling → Form R
+  list_of : Form R → Option ℕ → Form R
+  distinct_integers : Form R
+
+-- what keeps a member from being given: another member is given, is a word, isn't an integer, or is the same id
+pub data Bar : Type 0 where
+  given : List ℕ → Bar
+  is_word : List ℕ → List ℕ → Bar
+  is_not_integer : List ℕ → ℤ → Bar
+  is_same_id : List ℕ → Bar
+
+-- a line of a table
+pub record Member (R : Type 0) : Type 0 where
+  pub name : List ℕ
+  pub needed : Bool
+  pub form : Form R
+  pub barred : List Bar
+
+-- the further members under a word
+pub record Case (R : Type 0) : Type 0 where
+  pub word : List ℕ
+  pub members : List (Member R)
+
+-- the table of an object: the members that it always has, and the member whose word says what further ones there are
+pub record Object (R : Type 0) : Type 0 where
+  pub members : List (Member R)
+  pub decided_by : Option (List ℕ)
+  pub cases : List (Case R)

@@ -1,0 +1,85 @@
+ghost use Rattle.std.specs.Prelude.{◌≡◌, ◌<◌, ◌^◌, Some, IfOk, OnSome, IfNone, option_and_then, string_bytes};
+ghost use Rattle.serde_json.specs.Data.{string};
+ghost use Rattle.serde_json.specs.View.{view};
+ghost use Rattle.dv_value.specs.Tokens.{version_of, token_of, part_way, token_text};
+
+use itoa::Buffer;
+use serde_json::Value as Json;
+use std::alloc::{AllocError, Global};
+
+/// How far a reader of changes has come: it has seen what changed up to version `place`, and its first reading began
+/// at version `start`. Once `place` has reached `start` the token is that version alone.
+#[derive(Clone, Copy, Debug, PartialEq, Eq)]
+pub struct Token {
+    pub start: u64,
+    pub place: u64,
+}
+
+impl Token {
+    /// Reads a token: a version, or two of them joined by `+`, of which the second is below the first. None for any
+    /// other text.
+    #[tactic(auto, unfolding(crate::specs::Tokens::token_of))]
+    pub fn parse(text: &str) -> Option<Token>
+        ensures { result ≡ token_of text.now }
+    {
+        match text.split_once('+') {
+            Some((start, place)) => Token::between(read_version(start)?, read_version(place)?),
+            None => {
+                let version = read_version(text)?;
+                Some(Token {
+                    start: version,
+                    place: version,
+                })
+            }
+        }
+    }
+
+    // A token of a reading that isn't through yet.
+    #[tactic(auto, unfolding(crate::specs::Tokens::part_way))]
+    fn between(start: u64, place: u64) -> Option<Token>
+        ensures { result ≡ part_way start place }
+    {
+        if place < start {
+            Some(Token { start, place })
+        } else {
+            None
+        }
+    }
+
+    /// The token as it is read.
+    #[tactic(auto, unfolding(crate::specs::Tokens::token_text))]
+    pub fn to_text(self, alloc: Global) -> Result<String, AllocError>
+        ensures { IfOk result (λ text. string_bytes text ≡ token_text self) }
+    {
+        let Token { start, place } = self;
+        if place < start {
+            Ok(format!(in alloc; "{start}+{place}")?)
+        } else {
+            Ok(format!(in alloc; "{place}")?)
+        }
+    }
+
+    /// The token as JSON.
+    pub fn to_json(self, alloc: Global) -> Result<Json, AllocError>
+        ensures { IfOk result (λ json. view json ≡ string (token_text self)) }
+    {
+        Ok(Json::String(self.to_text(alloc)?))
+    }
+}
+
+/// Reads a version: its number in decimal, as it is printed. None for any other text, and for a number of more than
+/// 64 bits.
+#[tactic(auto, unfolding(crate::specs::Tokens::version_of))]
+pub fn read_version(text: &str) -> Option<u64>
+    ensures { result ≡ version_of text.now }
+{
+    let Ok(version) = text.parse::<u64>() else {
+        return None;
+    };
+    let mut buffer = Buffer::new();
+    if buffer.format(version) == text {
+        Some(version)
+    } else {
+        None
+    }
+}
