@@ -1,2 +1,4 @@
 pub mod Raws
+pub mod Sixteen
+pub mod Spellings
 pub mod Utf8

@@ -8,13 +8,18 @@
 mod id;
 mod json;
 mod kind;
+mod moment;
 mod raw;
 mod refusal;
+mod spelling;
 mod text;
+mod value;
 
 pub use id::Id;
 pub use json::{JsonFault, add_member, read_json};
 pub use kind::Kind;
 pub use raw::{Raw, Values};
 pub use refusal::Refusal;
+pub use spelling::{TakeFault, no_spelling_begins_another, put_value, take_value};
 pub use text::{Names, Text};
+pub use value::Value;
