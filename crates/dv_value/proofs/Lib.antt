@@ -1,3 +1,4 @@
+pub mod Amounts
 pub mod Raws
 pub mod Sixteen
 pub mod Spellings

@@ -1,3 +1,4 @@
+pub mod Amount
 pub mod Ids
 pub mod Json
 pub mod Moment

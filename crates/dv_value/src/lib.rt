@@ -5,6 +5,7 @@
 //! refusal has one number and one printed form.
 #![tactic(auto)]
 
+mod amount;
 mod id;
 mod json;
 mod kind;
@@ -15,6 +16,7 @@ mod spelling;
 mod text;
 mod value;
 
+pub use amount::{print_amount, read_amount};
 pub use id::Id;
 pub use json::{JsonFault, add_member, read_json};
 pub use kind::Kind;
