@@ -57,9 +57,13 @@ unfoldable pub places : ℕ → ℕ → List ℕ
 places zero n = []
 places (suc count) n = (48 + n / 10 ^ count % 10) ∷ places count n
 
+-- the point and all decimals of a number of last decimals, or nothing where it has none
+unfoldable pub decimals_text : ℕ → ℕ → List ℕ
+decimals_text scale n = if scale == 0 then [] else 46 ∷ places scale n
+
 -- the text of a number of last decimals, with all its decimals
-unfoldable pub magnitude_text : ℕ → ℕ → List ℕ
-magnitude_text scale n = decimal (n / 10 ^ scale) ++ (if scale == 0 then [] else 46 ∷ places scale n)
+abbrev pub magnitude_text : ℕ → ℕ → List ℕ
+magnitude_text scale n = decimal (n / 10 ^ scale) ++ decimals_text scale n
 
 -- the text of an amount
 unfoldable pub amount_text : ℕ → ℤ → List ℕ

@@ -1,8 +1,9 @@
-ghost use Rattle.std.specs.Prelude.{◌≡◌, ◌^◌, ◌<◌, ◌≤◌, ◌++◌, ◌∷◌, [], ◌*◌, ◌+◌, IfOk, OnOk, MatchOption, None, Some, encode_utf8_all, string_bytes};
+ghost use Rattle.std.specs.Prelude.{◌≡◌, ◌^◌, ◌<◌, ◌≤◌, ◌++◌, ◌∷◌, [], ◌*◌, ◌+◌, IfOk, OnOk, MatchOption, if◌then◌else◌, None, Some, encode_utf8_all, string_bytes};
 ghost use Rattle.std.specs.Option.{SomeIff};
 ghost use Rattle.std.specs.List.{list_all};
+ghost use Rattle.std.specs.Fmt.{decimal};
 ghost use Rattle.std.specs.Char.{is_ascii_digit};
-ghost use Rattle.dv_value.specs.Amount.{is_whole, is_decimals, whole_of, decimals_of, magnitude_of, amount_of, places, amount_text};
+ghost use Rattle.dv_value.specs.Amount.{is_whole, is_decimals, whole_of, decimals_of, magnitude_of, amount_of, places, decimals_text, amount_text};
 
 use crate::text::Text;
 use std::alloc::{AllocError, Global};
@@ -103,6 +104,7 @@ fn are_digits(text: &[u8]) -> bool
 fn unit(scale: u8) -> u64
     requires { scale ≤ 4 }
     ensures value { result ≡ 10 ^ scale }
+    ensures some { 0 < result }
     ensures small { result ≤ 10000 }
 {
     10_u64.pow(u32::from(scale))
@@ -115,17 +117,33 @@ pub fn print_amount(alloc: Global, amount: i64, scale: u8) -> Result<Text, Alloc
     ensures read_again { IfOk result (λ text. amount_of scale (encode_utf8_all text) ≡ Some amount) }
 {
     let magnitude = amount.unsigned_abs();
-    let whole = magnitude / unit(scale);
-    let mut text = if amount < 0 {
-        format!(in alloc; "-{whole}")?
-    } else {
-        format!(in alloc; "{whole}")?
-    };
-    if scale > 0 {
-        text.push('.')?;
-        push_places(&mut text, magnitude, scale)?;
-    }
+    let mut text = signed(alloc, amount < 0, magnitude / unit(scale))?;
+    push_decimals(&mut text, magnitude, scale)?;
     Ok(Text::from_string(text))
+}
+
+// The text of a whole number with its sign.
+fn signed(alloc: Global, is_negative: bool, whole: u64) -> Result<String, AllocError>
+    ensures { IfOk result (λ text. string_bytes text ≡ (if is_negative then 45 ∷ decimal whole else decimal whole)) }
+{
+    if is_negative {
+        Ok(format!(in alloc; "-{whole}")?)
+    } else {
+        Ok(format!(in alloc; "{whole}")?)
+    }
+}
+
+// Appends the point and the decimals, where there are to be any.
+#[tactic(auto, unfolding(crate::specs::Amount::decimals_text))]
+fn push_decimals(text: &mut String, number: u64, scale: u8) -> Result<(), AllocError>
+    requires { scale ≤ 4 }
+    ensures { OnOk result (string_bytes text.new ≡ string_bytes text.old ++ decimals_text scale number) }
+{
+    if scale == 0 {
+        return Ok(());
+    }
+    text.push('.')?;
+    push_places(text, number, scale)
 }
 
 // Appends the last `count` decimal digits of a number.
