@@ -17,7 +17,8 @@ use Rattle.std.specs.Option.{MatchOption, SomeIff, option_map, option_and_then}
 use Rattle.std.specs.Result.{OkIff, result_ok}
 use Rattle.std.specs.Str.Parse.{digits_value, digits_value_after, ParsesUnsigned}
 use Rattle.std.proofs.lemmas.Str.Parse.{IsDigitsTest, IsNumeralModel, numerals_by_value, parse_digits, digits_value_short}
-use Rattle.dv_value.specs.Amount.{is_whole, is_decimals, whole_of, decimals_of, decimals_after, is_point, magnitude_of, amount_of, in_range, places, decimals_text, magnitude_text, amount_text}
+use Rattle.dv_value.specs.Digits.{places}
+use Rattle.dv_value.specs.Amount.{is_whole, is_decimals, whole_of, decimals_of, decimals_after, is_point, magnitude_of, amount_of, in_range, decimals_text, magnitude_text, amount_text}
 
 -- texts of digits
 digits_test : IsDigitsTest (λ ds. list_all is_ascii_digit ds ≡ true)

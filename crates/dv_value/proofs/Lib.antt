@@ -1,4 +1,5 @@
 pub mod Amounts
+pub mod Moments
 pub mod Raws
 pub mod Sixteen
 pub mod Spellings

@@ -5,6 +5,7 @@ use Rattle.std.specs.Char.{is_ascii_digit}
 use Rattle.std.specs.List.{list_all, position_or_len, before_first, after_first}
 use Rattle.std.specs.Str.Parse.{digits_value}
 use Rattle.std.specs.Fmt.{decimal}
+use Rattle.dv_value.specs.Digits.{places}
 
 -- the character `.`
 abbrev pub is_point : ℕ → Bool
@@ -51,11 +52,6 @@ amount_of scale (c ∷ text) =
     if c == 45
     then option_and_then (λ n. in_range (neg_ℤ (pos n))) (magnitude_of scale text)
     else option_and_then (λ n. in_range (pos n)) (magnitude_of scale (c ∷ text))
-
--- the last `count` decimal digits of a number, the highest first
-unfoldable pub places : ℕ → ℕ → List ℕ
-places zero n = []
-places (suc count) n = (48 + n / 10 ^ count % 10) ∷ places count n
 
 -- the point and all decimals of a number of last decimals, or nothing where it has none
 unfoldable pub decimals_text : ℕ → ℕ → List ℕ

@@ -1,4 +1,5 @@
 pub mod Amount
+pub mod Digits
 pub mod Ids
 pub mod Json
 pub mod Moment

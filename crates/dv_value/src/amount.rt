@@ -3,7 +3,8 @@ ghost use Rattle.std.specs.Option.{SomeIff};
 ghost use Rattle.std.specs.List.{list_all};
 ghost use Rattle.std.specs.Fmt.{decimal};
 ghost use Rattle.std.specs.Char.{is_ascii_digit};
-ghost use Rattle.dv_value.specs.Amount.{is_whole, is_decimals, whole_of, decimals_of, magnitude_of, amount_of, places, decimals_text, amount_text};
+ghost use Rattle.dv_value.specs.Amount.{is_whole, is_decimals, whole_of, decimals_of, magnitude_of, amount_of, decimals_text, amount_text};
+ghost use Rattle.dv_value.specs.Digits.{places};
 
 use crate::text::Text;
 use std::alloc::{AllocError, Global};

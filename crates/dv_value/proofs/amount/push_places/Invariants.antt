@@ -1,5 +1,5 @@
 use Rattle.std.proofs.Common.{◌≡◌, ◌++◌, string_bytes}
-use Rattle.dv_value.specs.Amount.{places}
+use Rattle.dv_value.specs.Digits.{places}
 use Rattle.dv_value.proofs.amount.push_places.Given as goal
 
 abbrev pub invariant-loop-place : goal.invariant-loop-place
