@@ -364,6 +364,9 @@ ascii_digits : (ds : List ℕ) → list_all is_ascii_digit ds ≡ true → IsAsc
 ascii_digits [] digits = IsAscii-nil
 ascii_digits (d ∷ ds) digits = IsAscii-cons d ds (omega (arith, leb-true d 57 (both _ _ (both _ _ digits).0).1)) (ascii_digits ds (both _ _ digits).1)
 
+pub ascii_places : (count n : ℕ) → IsAscii (places count n)
+ascii_places count n = ascii_digits (places count n) (digits_of_places count n)
+
 ascii_decimals : (scale n : ℕ) → IsAscii (decimals_text scale n)
 unfolding decimals_text
 ascii_decimals zero n = IsAscii-nil

@@ -1,13 +1,24 @@
 -- What the text of a moment says.
-use Rattle.std.proofs.Common.{◌≡◌, ◌≢◌, ℕ, zero, suc, ◌+◌, ◌-◌, ◌*◌, ◌/◌, ◌%◌, ◌^◌, ◌<◌, ◌≤◌, List, [], ◌∷◌, ◌++◌, length, refl, subst, sym, ◌∙◌, ap, arith, Bool, true, false, cond, ◌&&◌, leb, leb-true, le-leb, Option, Some, None, ℤ, pos, negsuc, ◌+ℤ◌, ◌*ℤ◌, to_z, of_z, w32, w64}
+use Rattle.std.proofs.Common.{◌≡◌, ◌≢◌, ℕ, zero, suc, ◌+◌, ◌-◌, ◌*◌, ◌/◌, ◌%◌, ◌^◌, ◌<◌, ◌≤◌, List, [], ◌∷◌, ◌++◌, length, refl, subst, sym, ◌∙◌, ap, arith, Bool, true, false, cond, ◌&&◌, leb, leb-true, le-leb, Option, Some, None, ℤ, pos, negsuc, ◌+ℤ◌, ◌*ℤ◌, ◌≤ℤ◌, to_z, of_z, w16, w32, w64, unsigned_abs, Fits}
+use lib.Dec.{T}
+use lib.Signed.{non_neg}
 use Rattle.std.specs.Str.{bytes_eq}
 use Rattle.std.proofs.lemmas.Slice.Eq.{bytes_eq-Decides}
 use Rattle.jiff_core.specs.Calendar.{IsDate, IsEpochDay, IsCivilDate, days_in_month, days_from_civil}
 use Rattle.jiff_core.specs.Date.{epoch_day, IsYmd}
 use Rattle.jiff_core.specs.declared.civil.date.Date.{Date}
-use Rattle.std.proofs.lemmas.Int.{ints}
+use Rattle.std.proofs.lemmas.Int.{ints, by_lt_z}
+use Rattle.jiff_core.specs.Calendar.{day_count}
+use Rattle.jiff_core.proofs.CalendarLemmas.{days_from_civil-day_count, day_count-lt_year}
+use Rattle.jiff_core.proofs.MarchLemmas.{day_count-early}
+use Rattle.jiff_core.proofs.DateLemmas.{civil}
+use Rattle.jiff_core.proofs.SignedLemmas.{signed_arith}
+use Rattle.std.specs.Str.{IsAscii}
+use Rattle.std.proofs.lemmas.Str.{IsAscii-append}
+use Rattle.std.proofs.lemmas.Str.Ascii.{IsAscii-nil, IsAscii-cons}
+use Rattle.dv_value.proofs.Amounts.{ascii_places}
 use Rattle.dv_value.specs.Digits.{places}
-use Rattle.dv_value.specs.Moment.{IsMoment, is_civil_date, is_civil_time, seconds_of, civil_text, civil_of, moment_of, IsNear, IsDateOf}
+use Rattle.dv_value.specs.Moment.{IsMoment, is_civil_date, is_civil_time, seconds_of, civil_text, civil_of, moment_of, IsNear, IsDateOf, IsCivilAt}
 use Rattle.dv_value.specs.declared.moment.Civil.{Civil}
 
 length-civil_text : (c : Civil) → length (civil_text c) ≡ 20
@@ -92,3 +103,94 @@ time_bounds c e =
 pub seconds_are : (from day days time : ℤ) (n : ℕ) → from ≡ to_z w32 (of_z w32 day) → IsEpochDay day → day ≡ days → time ≡ pos n → n < 86400
     → to_z w64 (of_z w64 (to_z w64 (of_z w64 (to_z w64 (of_z w64 from) *ℤ pos 86400)) +ℤ to_z w64 (of_z w64 time))) ≡ days *ℤ pos 86400 +ℤ pos n
 seconds_are from day days time n is range day_is time_is small = omega (arith, ints, range.0, range.1)
+
+-- ---- printing
+
+ascii_mark : (mark count n : ℕ) → mark < 128 → IsAscii (mark ∷ places count n)
+ascii_mark mark count n small = IsAscii-cons mark (places count n) small (ascii_places count n)
+
+pub ascii_civil : (c : Civil) → IsAscii (civil_text c)
+unfolding civil_text
+ascii_civil c =
+    IsAscii-append _ (90 ∷ []) (IsAscii-append _ (58 ∷ places 2 c.second) (IsAscii-append _ (58 ∷ places 2 c.minute) (IsAscii-append _ (84 ∷ places 2 c.hour) (IsAscii-append _ (45 ∷ places 2 c.day)
+    (IsAscii-append (places 4 c.year) (45 ∷ places 2 c.month) (ascii_places 4 c.year) (ascii_mark 45 2 c.month (omega arith)))
+    (ascii_mark 45 2 c.day (omega arith))) (ascii_mark 84 2 c.hour (omega arith))) (ascii_mark 58 2 c.minute (omega arith))) (ascii_mark 58 2 c.second (omega arith)))
+    (IsAscii-cons 90 [] (omega arith) IsAscii-nil)
+
+pair_is : (n : ℕ) → n ≤ 99 → (48 + n / 10 % 10 - 48) * 10 + (48 + n / 1 % 10 - 48) ≡ n
+pair_is n small = omega arith
+
+year_is : (n : ℕ) → n ≤ 9999 → ((48 + n / 1000 % 10 - 48) * 10 + (48 + n / 100 % 10 - 48)) * 100 + ((48 + n / 10 % 10 - 48) * 10 + (48 + n / 1 % 10 - 48)) ≡ n
+year_is n small = omega arith
+
+civil_of-text : (c : Civil) → IsNear c → (c.hour ≤ 23) × (c.minute ≤ 59) × (c.second ≤ 59) → civil_of (civil_text c) ≡ c
+unfolding civil_of civil_text places
+civil_of-text c around time =
+    let month : c.month ≤ 99 = omega (arith, around.2) in
+    let day : c.day ≤ 99 = omega (arith, around.3) in
+    let hour : c.hour ≤ 99 = omega (arith, time.0) in
+    let minute : c.minute ≤ 99 = omega (arith, time.1) in
+    let second : c.second ≤ 99 = omega (arith, time.2) in
+    λ i. record {
+      year = year_is c.year around.1 i;
+      month = pair_is c.month month i;
+      day = pair_is c.day day i;
+      hour = pair_is c.hour hour i;
+      minute = pair_is c.minute minute i;
+      second = pair_is c.second second i;
+    }
+
+-- what is printed is read again
+pub moment_of-text : (c : Civil) (seconds : ℤ) → IsCivilAt c seconds → moment_of (civil_text c) ≡ Some seconds
+unfolding moment_of
+moment_of-text c seconds at =
+    let same : civil_of (civil_text c) ≡ c = civil_of-text c (near c at.0) (time_bounds c at.1) in
+    rw (same, (bytes_eq-Decides (civil_text c) (civil_text c)).1 refl, at.0, at.1, at.2) refl
+
+first_day : day_count (pos 1) 1 1 ≡ 3652791
+first_day = day_count-early (pos 1) 10000 1 1 refl (omega arith) (omega arith) (omega arith)
+
+pub year_some : (date : Date) → negsuc 719161 ≤ℤ epoch_day date → pos 1 ≤ℤ date.year
+year_some date late = by_lt_z date.year (pos 1)
+    (λ early. absurd (omega (arith, signed_arith, first_day, days_from_civil-day_count date.year date.month date.day, late, day_count-lt_year date.year date.month date.day (pos 1) 1 1 (civil date) (omega arith) early)))
+    (λ later. later)
+
+pub total_at : (seconds : ℤ) → IsMoment seconds → pos (unsigned_abs (to_z w64 (of_z w64 (to_z w64 (of_z w64 seconds) +ℤ pos 377705116800)))) ≡ seconds +ℤ pos 377705116800
+total_at seconds range = omega (arith, ints, signed_arith, range.0, range.1)
+
+time_parts : (t : ℕ) → t / 3600 * 3600 + t / 60 % 60 * 60 + t % 60 ≡ t
+time_parts t = omega arith
+
+late_day : (day seconds : ℤ) (total : ℕ) → pos total ≡ seconds +ℤ pos 377705116800 → IsMoment seconds → day +ℤ pos 4371587 ≡ pos (total / 86400) → negsuc 719161 ≤ℤ day
+late_day day seconds total is range at = omega (arith, ints, range.0)
+
+clock_is : (day seconds : ℤ) (total n : ℕ) → pos total ≡ seconds +ℤ pos 377705116800 → day +ℤ pos 4371587 ≡ pos (total / 86400) → n ≡ total % 86400 → day *ℤ pos 86400 +ℤ pos n ≡ seconds
+clock_is day seconds total n is at rest = omega (arith, ints)
+
+-- the date and the time of day of a moment
+pub civil_at : (date : Date) (c : Civil) (seconds : ℤ) (total : ℕ) → pos total ≡ seconds +ℤ pos 377705116800 → IsMoment seconds → epoch_day date +ℤ pos 4371587 ≡ pos (total / 86400)
+    → pos c.year ≡ date.year → c.month ≡ date.month → c.day ≡ date.day → c.hour ≡ total % 86400 / 3600 → c.minute ≡ total % 86400 / 60 % 60 → c.second ≡ total % 86400 % 60 → IsCivilAt c seconds
+unfolding is_civil_time seconds_of
+civil_at date c seconds total is range at year month day hour minute second =
+    let some : pos 1 ≤ℤ date.year = year_some date (late_day (epoch_day date) seconds total is range at) in
+    let low : 1 ≤ c.year = omega (arith, ints, some, year) in
+    let high : c.year ≤ 9999 = omega (arith, ints, year, date.year_in.1) in
+    let within : c.day ≤ days_in_month (pos c.year) c.month =
+      omega (arith, day, date.day_in.1, ap (λ y. days_in_month y c.month) year, ap (λ m. days_in_month date.year m) month) in
+    let days : days_from_civil (pos c.year) c.month c.day ≡ epoch_day date = rw (year, month, day) refl in
+    let time : c.hour * 3600 + c.minute * 60 + c.second ≡ total % 86400 = rw (hour, minute, second) (time_parts (total % 86400)) in
+    (made c (low, high, omega (arith, month, date.month_in.0), omega (arith, month, date.month_in.1), omega (arith, day, date.day_in.0), within),
+     rw (le-leb c.hour 23 (omega (arith, hour)), le-leb c.minute 59 (omega (arith, minute)), le-leb c.second 59 (omega (arith, second))) refl,
+     rw days (clock_is (epoch_day date) seconds total _ is at time))
+
+pub year_of : (date : Date) (seconds : ℤ) (total : ℕ) → pos total ≡ seconds +ℤ pos 377705116800 → IsMoment seconds → epoch_day date +ℤ pos 4371587 ≡ pos (total / 86400) → pos (unsigned_abs (to_z w16 (of_z w16 date.year))) ≡ date.year
+year_of date seconds total is range at =
+    let some : pos 1 ≤ℤ date.year = year_some date (late_day (epoch_day date) seconds total is range at) in
+    omega (arith, ints, signed_arith, some, date.year_in.1)
+
+pub year_casts : (date : Date) (seconds : ℤ) (total : ℕ) → pos total ≡ seconds +ℤ pos 377705116800 → IsMoment seconds → epoch_day date +ℤ pos 4371587 ≡ pos (total / 86400)
+    → T (non_neg (to_z w16 (of_z w16 date.year))) × Fits w32 (unsigned_abs (to_z w16 (of_z w16 date.year)))
+year_casts date seconds total is range at =
+    let some : pos 1 ≤ℤ date.year = year_some date (late_day (epoch_day date) seconds total is range at) in
+    let cast : to_z w16 (of_z w16 date.year) ≡ pos (unsigned_abs date.year) = omega (arith, ints, signed_arith, some, date.year_in.1) in
+    (rw cast tt, omega (arith, ints, signed_arith, some, date.year_in.1))

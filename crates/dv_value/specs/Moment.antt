@@ -50,6 +50,14 @@ moment_of text =
     then Some (seconds_of (civil_of text))
     else None
 
+-- the civil date and time of a moment
+abbrev pub IsCivilAt : Civil → ℤ → Type 0
+IsCivilAt c seconds = (is_civil_date c ≡ true) × (is_civil_time c ≡ true) × (seconds_of c ≡ seconds)
+
+-- the text is that of the civil date and time of the moment
+abbrev pub IsTextOf : List ℕ → ℤ → Type 0
+IsTextOf text seconds = (c : Civil) × IsCivilAt c seconds × (text ≡ civil_text c)
+
 -- a year from 1 to 9999, and a month and a day that some calendar may have
 abbrev pub IsNear : Civil → Type 0
 IsNear c = (1 ≤ c.year) × (c.year ≤ 9999) × (c.month ≤ 12) × (c.day ≤ 31)

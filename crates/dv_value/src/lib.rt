@@ -20,7 +20,7 @@ pub use amount::{print_amount, read_amount};
 pub use id::Id;
 pub use json::{JsonFault, add_member, read_json};
 pub use kind::Kind;
-pub use moment::read_moment;
+pub use moment::{print_moment, read_moment};
 pub use raw::{Raw, Values};
 pub use refusal::Refusal;
 pub use spelling::{TakeFault, no_spelling_begins_another, put_value, take_value};

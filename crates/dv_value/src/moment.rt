@@ -1,5 +1,5 @@
-ghost use Rattle.std.specs.Prelude.{◌≡◌, ℕ, ◌+◌, ◌/◌, ◌%◌, ◌&&◌, ◌<◌, ◌↔◌, length, IsTrue, IfOk, if◌then◌else◌, Some, None, true, false, MatchOption};
-ghost use Rattle.dv_value.specs.Moment.{IsMoment, is_civil_date, is_civil_time, seconds_of, civil_text, pair_at, civil_of, moment_of, IsNear, IsDateOf};
+ghost use Rattle.std.specs.Prelude.{◌≡◌, ℕ, ◌+◌, ◌/◌, ◌%◌, ◌&&◌, ◌<◌, ◌↔◌, length, IsTrue, IfOk, encode_utf8_all, if◌then◌else◌, Some, None, true, false, MatchOption};
+ghost use Rattle.dv_value.specs.Moment.{IsMoment, is_civil_date, is_civil_time, seconds_of, civil_text, pair_at, civil_of, moment_of, IsNear, IsDateOf, IsCivilAt, IsTextOf};
 
 use crate::text::Text;
 use jiff_core::civil::Date;
@@ -12,6 +12,9 @@ const FIRST: i64 = -62_135_596_800;
 const LAST: i64 = 253_402_300_799;
 
 const SECONDS_OF_DAY: i64 = 86_400;
+
+// From -9999-01-01, the first date of the calendar that computes, to 1970-01-01.
+const DAYS_BEFORE: i64 = 4_371_587;
 
 /// Whether a number of seconds lies in the years 0001 to 9999, which a clock's moments do.
 pub fn is_moment(seconds: i64) -> bool
@@ -37,6 +40,16 @@ pub fn read_moment(text: &str) -> Option<i64>
     civil.seconds()
 }
 
+/// The text of a moment, `YYYY-MM-DDTHH:MM:SSZ`.
+pub fn print_moment(alloc: Global, seconds: i64) -> Result<Text, AllocError>
+    requires { IsMoment seconds }
+    ensures text { IfOk result (λ text. IsTextOf text seconds) }
+    ensures read_again { IfOk result (λ text. moment_of (encode_utf8_all text) ≡ Some seconds) }
+{
+    let civil = Civil::at(seconds);
+    civil.print(alloc)
+}
+
 // A date and a time of day in UTC, as a text spells them, whether the calendar has them or not.
 #[derive(Clone, Copy)]
 struct Civil {
@@ -49,6 +62,34 @@ struct Civil {
 }
 
 impl Civil {
+    // The date and the time of day of a moment.
+    fn at(seconds: i64) -> Civil
+        requires { IsMoment seconds }
+        ensures { IsCivilAt result seconds }
+    {
+        let total = (seconds + DAYS_BEFORE * SECONDS_OF_DAY) as u64;
+        let date = Date::from_days_since_min((total / 86_400) as u32);
+        let time = (total % 86_400) as u32;
+        Civil {
+            year: date.year as u32,
+            month: u32::from(date.month),
+            day: u32::from(date.day),
+            hour: time / 3600,
+            minute: time / 60 % 60,
+            second: time % 60,
+        }
+    }
+
+    // The text, as characters.
+    fn print(&self, alloc: Global) -> Result<Text, AllocError>
+        ensures { IfOk result (λ text. text ≡ civil_text self.now) }
+    {
+        match str::from_utf8(&self.to_text()) {
+            Ok(text) => Ok(Text::from_str(alloc, text)?),
+            Err(_) => unreachable!(),
+        }
+    }
+
     // What the digits of a text say, at the places where a moment's text has them.
     #[tactic(auto, unfolding(crate::specs::Moment::civil_of))]
     fn from_text(text: &[u8]) -> Civil
