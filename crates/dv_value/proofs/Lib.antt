@@ -1,5 +1,7 @@
 pub mod Amounts
+pub mod Characters
 pub mod Moments
+pub mod Orders
 pub mod Raws
 pub mod Sixteen
 pub mod Spellings

@@ -3,6 +3,7 @@ pub mod Digits
 pub mod Ids
 pub mod Json
 pub mod Moment
+pub mod Order
 pub mod Raws
 pub mod Refusals
 pub mod Spelling
