@@ -8,3 +8,4 @@ pub mod Raws
 pub mod Refusals
 pub mod Spelling
 pub mod Texts
+pub mod Typing

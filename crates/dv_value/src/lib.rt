@@ -15,6 +15,7 @@ mod raw;
 mod refusal;
 mod spelling;
 mod text;
+mod typing;
 mod value;
 
 pub use amount::{print_amount, read_amount};
@@ -27,4 +28,5 @@ pub use raw::{Raw, Values};
 pub use refusal::Refusal;
 pub use spelling::{TakeFault, no_spelling_begins_another, put_value, take_value};
 pub use text::{Names, Text};
+pub use typing::{TypeFault, type_raw};
 pub use value::Value;
