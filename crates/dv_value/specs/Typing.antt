@@ -1,10 +1,11 @@
 -- A kind gives a raw value its meaning: null is Empty, a text is read in the kind's spelling, and a number, a choice and a text keep to the kind's limits.
-use Rattle.std.specs.Prelude.{ℕ, ◌^◌, ◌≤◌, ℤ, pos, negsuc, int_le, nat_lt, nat_le, Bool, ◌&&◌, if◌then◌else◌, List, length, encode_utf8_all, Option, Some, None, Result, Ok, Err}
+use Rattle.std.specs.Prelude.{◌≡◌, ◌⊎◌, chars, ℕ, ◌^◌, ◌≤◌, ℤ, pos, negsuc, int_le, nat_lt, nat_le, Bool, ◌&&◌, if◌then◌else◌, List, length, encode_utf8_all, Option, Some, None, Result, Ok, Err}
 use Rattle.std.specs.List.{list_any}
 use Rattle.std.specs.Ordering.{int_eq}
-use Rattle.dv_value.specs.Amount.{amount_of}
-use Rattle.dv_value.specs.Ids.{id_of}
-use Rattle.dv_value.specs.Moment.{moment_of}
+use Rattle.dv_value.specs.Amount.{amount_of, amount_text}
+use Rattle.dv_value.specs.Ids.{id_of, id_text}
+use Rattle.dv_value.specs.Moment.{moment_of, IsTextOf}
+use Rattle.dv_value.specs.Spelling.{tag_of}
 use Rattle.dv_value.specs.declared.kind.Kind.{Kind}
 use Rattle.dv_value.specs.declared.kind.Kind.TheVariants.{Flag as FlagKind, Whole as WholeKind, Choice as ChoiceKind, Amount as AmountKind, Moment as MomentKind, Text as TextKind, Ref as RefKind}
 use Rattle.dv_value.specs.declared.raw.Raw.{Raw}
@@ -74,3 +75,38 @@ typed kind Null = Ok Empty
 typed kind (Truth flag) = typed_truth kind flag
 typed kind (Int n) = typed_number kind n
 typed kind (Str text) = typed_text kind text
+
+-- the tag of a kind's values
+unfoldable pub kind_tag : Kind → ℕ
+kind_tag FlagKind = 1
+kind_tag (WholeKind min max) = 2
+kind_tag (ChoiceKind options) = 3
+kind_tag (AmountKind scale) = 4
+kind_tag MomentKind = 5
+kind_tag (TextKind max) = 6
+kind_tag RefKind = 7
+
+-- the value is Empty or of the kind
+abbrev pub IsOfKind : Kind → Value → Type 0
+IsOfKind kind value = (tag_of value ≡ 0) ⊎ (tag_of value ≡ kind_tag kind)
+
+-- the decimals of a kind's amounts
+unfoldable pub scale_of : Kind → ℕ
+scale_of FlagKind = 0
+scale_of (WholeKind min max) = 0
+scale_of (ChoiceKind options) = 0
+scale_of (AmountKind scale) = scale
+scale_of MomentKind = 0
+scale_of (TextKind max) = 0
+scale_of RefKind = 0
+
+-- the raw value is the kind's spelling of the value
+unfoldable pub IsRawOf : Kind → Value → Raw → Type 0
+IsRawOf kind Empty raw = raw ≡ Null
+IsRawOf kind (Flag flag) raw = raw ≡ Truth flag
+IsRawOf kind (Whole n) raw = raw ≡ Int n
+IsRawOf kind (Choice n) raw = raw ≡ Int n
+IsRawOf kind (Amount amount) raw = raw ≡ Str (amount_text (scale_of kind) amount)
+IsRawOf kind (Moment seconds) raw = (text : List ℕ) × IsTextOf text seconds × (raw ≡ Str text)
+IsRawOf kind (Text text) raw = raw ≡ Str text
+IsRawOf kind (Ref id) raw = raw ≡ Str (chars (id_text id.0))

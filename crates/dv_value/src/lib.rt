@@ -28,5 +28,5 @@ pub use raw::{Raw, Values};
 pub use refusal::Refusal;
 pub use spelling::{TakeFault, no_spelling_begins_another, put_value, take_value};
 pub use text::{Names, Text};
-pub use typing::{TypeFault, type_raw};
+pub use typing::{TypeFault, raw_of, type_raw};
 pub use value::Value;

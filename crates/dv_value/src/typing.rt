@@ -1,12 +1,13 @@
-ghost use Rattle.std.specs.Prelude.{◌≡◌, IfOk, IsErrOf, Ok, Err, Some, None, ◌&&◌, if◌then◌else◌};
+ghost use Rattle.std.specs.Prelude.{◌≡◌, ◌≤◌, IfOk, IsErrOf, Ok, Err, Some, None, ◌&&◌, if◌then◌else◌};
 ghost use Rattle.std.specs.List.{list_any};
 ghost use Rattle.std.specs.Ordering.{int_eq};
-ghost use Rattle.dv_value.specs.Typing.{HasScale, in_limits, is_32, typed_truth, typed_number, typed_text, typed};
+ghost use Rattle.dv_value.specs.Typing.{HasScale, in_limits, is_32, typed_truth, typed_number, typed_text, typed, IsOfKind, IsRawOf, scale_of};
+ghost use Rattle.dv_value.specs.Spelling.{HasSpelling};
 
-use crate::amount::read_amount;
+use crate::amount::{print_amount, read_amount};
 use crate::id::Id;
 use crate::kind::Kind;
-use crate::moment::read_moment;
+use crate::moment::{print_moment, read_moment};
 use crate::raw::Raw;
 use crate::text::Text;
 use crate::value::Value;
@@ -147,5 +148,43 @@ fn type_text(alloc: Global, kind: &Kind, text: &Text) -> Result<Value, TypeFault
         Kind::Flag => Err(TypeFault::WrongType),
         Kind::Whole { .. } => Err(TypeFault::WrongType),
         Kind::Choice { .. } => Err(TypeFault::WrongType),
+    }
+}
+
+/// The raw value of a value of a kind: an amount with all its decimals, an id in lower case with hyphens.
+#[tactic(auto, unfolding(crate::specs::Typing::IsRawOf, crate::specs::Spelling::HasSpelling))]
+pub fn raw_of(alloc: Global, kind: &Kind, value: &Value) -> Result<Raw, AllocError>
+    requires scale { HasScale kind.now }
+    requires of_kind { IsOfKind kind.now value.now }
+    requires spelled { HasSpelling value.now }
+    ensures { IfOk result (λ raw. IsRawOf kind.now value.now raw) }
+{
+    match value {
+        Value::Empty => Ok(Raw::Null),
+        Value::Flag(flag) => Ok(Raw::Bool(*flag)),
+        Value::Whole(number) => Ok(Raw::Int(i64::from(*number))),
+        Value::Choice(number) => Ok(Raw::Int(i64::from(*number))),
+        Value::Amount(amount) => Ok(Raw::Str(print_amount(alloc, *amount, scale(kind))?)),
+        Value::Moment(seconds) => Ok(Raw::Str(print_moment(alloc, *seconds)?)),
+        Value::Text(text) => Ok(Raw::Str(text.copy(alloc)?)),
+        Value::Ref(id) => Ok(Raw::Str(Text::from_string(id.to_text(alloc)?))),
+    }
+}
+
+// The decimals of a kind's amounts.
+#[tactic(auto, unfolding(crate::specs::Typing::scale_of, crate::specs::Typing::HasScale))]
+fn scale(kind: &Kind) -> u8
+    requires { HasScale kind.now }
+    ensures value { result ≡ scale_of kind.now }
+    ensures few { result ≤ 4 }
+{
+    match kind {
+        Kind::Amount { scale } => *scale,
+        Kind::Flag => 0,
+        Kind::Whole { .. } => 0,
+        Kind::Choice { .. } => 0,
+        Kind::Moment => 0,
+        Kind::Text { .. } => 0,
+        Kind::Ref => 0,
     }
 }
