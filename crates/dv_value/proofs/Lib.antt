@@ -1,4 +1,10 @@
+pub mod Amounts
+pub mod Characters
+pub mod Moments
+pub mod Orders
 pub mod Printing
 pub mod Raws
+pub mod Sixteen
+pub mod Spellings
 pub mod Utf8
 pub mod Versions

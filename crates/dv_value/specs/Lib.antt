@@ -1,8 +1,14 @@
+pub mod Amount
+pub mod Digits
 pub mod Ids
 pub mod Json
+pub mod Moment
+pub mod Order
 pub mod Printed
 pub mod Raws
 pub mod Refusals
+pub mod Spelling
 pub mod Texts
 pub mod Tokens
+pub mod Typing
 pub mod Whats

@@ -5,24 +5,36 @@
 //! refusal has one number and one printed form.
 #![tactic(auto)]
 
+mod amount;
 mod id;
 mod json;
 mod kind;
+mod moment;
+mod order;
 mod printed;
 mod raw;
 mod refusal;
+mod spelling;
+#[cfg(test)]
+mod tests;
 mod text;
 mod token;
+mod typing;
 mod value;
 mod what;
 
+pub use amount::{print_amount, read_amount};
 pub use id::Id;
 pub use json::{JsonFault, add_member, read_json};
 pub use kind::Kind;
+pub use moment::{print_moment, read_moment};
+pub use order::{compare, the_order_of_values_is_total};
 pub use printed::version_json;
 pub use raw::{Raw, Values};
 pub use refusal::Refusal;
+pub use spelling::{TakeFault, no_spelling_begins_another, put_value, take_value};
 pub use text::{Names, Text};
 pub use token::{Token, read_version};
+pub use typing::{TypeFault, raw_of, type_raw};
 pub use value::Value;
 pub use what::What;

@@ -1,0 +1,6 @@
+-- The empty text has no characters.
+use Rattle.std.proofs.Common.{◌≡◌, ℕ, List, [], chars}
+use Rattle.std.proofs.lemmas.Str.{chars-nil}
+
+pub no_characters : chars [] ≡ []
+no_characters = chars-nil

@@ -1,0 +1,13 @@
+use Rattle.std.proofs.Common.{arith, ap, sym, ◌∙◌, ◌≡◌, take}
+use Rattle.std.specs.Int.{to_be_bytes, from_be_bytes, w128}
+use Rattle.dv_value.proofs.Sixteen.{be_bytes_16_of}
+use Rattle.dv_value.proofs.spelling.take_sixteen.Goals as goal
+
+pub returns-in-Some : goal.returns-in-Some
+returns-in-Some c =
+    let h = c.in-Some.ensures.cases in
+    record {
+      number_front = be_bytes_16_of c.args.body.now c.in-Some.bytes.now c.from_be_bytes.result h.enough h.same (λ i. omega (arith, c.type_inv.body i)) c.from_be_bytes.ensures;
+      number_within = h.enough;
+      number_fits = c.from_be_bytes.type_inv;
+    }
