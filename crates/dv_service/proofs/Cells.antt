@@ -8,11 +8,7 @@ use Rattle.dv_service.specs.declared.reply.Cell.{Cell}
 use Rattle.dv_service.specs.declared.reply.Shown.{Shown}
 use Rattle.dv_service.specs.declared.reply.Reply.{Reply}
 use Rattle.dv_service.specs.declared.reply.Reply.TheVariants.{Opened, Created, Rows, Refused}
-use Rattle.dv_value.specs.Refusals.{refusal_data}
-use Rattle.dv_value.specs.declared.refusal.Refusal.{Refusal}
-use Rattle.dv_value.specs.declared.refusal.Refusal.TheVariants.{BadDefinition, Malformed, UnknownCaller, OutOfMemory, NotBuilt}
-use Rattle.std.specs.Ordering.{nat_cmp, match_ordering}
-use Rattle.std.specs.Cmp.Lexicographic.{slice_cmp}
+use Rattle.dv_value.proofs.Floats.{either_of, put-float, refusal_data-float}
 
 append_one : (cells : List Cell) (cell : Cell) (ms : Members) → with_cells (cells ++ cell ∷ []) ms ≡ put (encode_utf8_all cell.name) (cell_data cell.text) (with_cells cells ms)
 unfolding with_cells
@@ -27,50 +23,19 @@ pub with_cells-step : (cells : List Cell) (i : ℕ) (cell : Cell) (name : List �
     → name ≡ encode_utf8_all cell.name → d ≡ cell_data cell.text → old ≡ with_cells (take i cells) start → put name d old ≡ with_cells (take (i + 1) cells) start
 with_cells-step cells i cell name d old start h is e f g = rw (e, f, g) (sym (rw (← is) at (with_cells-more cells i cell start h)))
 
-either_of : (a b : Bool) → a ≡ false → b ≡ false → (a || b) ≡ false
-either_of true b e f = e
-either_of false b e f = f
-
-first : (a b : Bool) → (a || b) ≡ false → a ≡ false
-first true b e = e
-first false b e = refl
-
-later : (a b : Bool) → (a || b) ≡ false → b ≡ false
-later true b e = absurd (cc)
-later false b e = e
-
 cell_data-float : (text : Option (List ℕ)) → has_float (cell_data text) ≡ false
 cell_data-float None = refl
 cell_data-float (Some text) = refl
 
-put-float : (o : Ordering) (k l : List ℕ) (d e : Data) (ms : Members) → slice_cmp nat_cmp k l ≡ o → has_float d ≡ false → (members_have_float (put k d ms) ≡ false)
-    → (has_float e || members_have_float ms) ≡ false
-    → members_have_float (match_ordering o (member k d (member l e ms)) (member l d ms) (member l e (put k d ms))) ≡ false
-put-float Less k l d e ms is f h m = either_of _ _ f m
-put-float Equal k l d e ms is f h m = either_of _ _ f (later _ _ m)
-put-float Greater k l d e ms is f h m = either_of _ _ (first _ _ m) h
-
-members_have_float-put : (k : List ℕ) (d : Data) (ms : Members) → has_float d ≡ false → members_have_float ms ≡ false → members_have_float (put k d ms) ≡ false
-members_have_float-put k d no_members f m = either_of _ _ f refl
-members_have_float-put k d (member l e ms) f m = put-float _ k l d e ms refl f (members_have_float-put k d ms f (later _ _ m)) m
-
 with_cells-float : (cells : List Cell) (ms : Members) → members_have_float ms ≡ false → members_have_float (with_cells cells ms) ≡ false
 unfolding with_cells
 with_cells-float [] ms m = m
-with_cells-float (c ∷ cells) ms m = with_cells-float cells _ (members_have_float-put (encode_utf8_all c.name) (cell_data c.text) ms (cell_data-float c.text) m)
+with_cells-float (c ∷ cells) ms m = with_cells-float cells _ (put-float (encode_utf8_all c.name) (cell_data c.text) ms (cell_data-float c.text) m)
 
 rows-float : (rows : List Shown) → items_have_float (items_of (map row_data rows)) ≡ false
 unfolding row_data
 rows-float [] = refl
 rows-float (r ∷ rows) = either_of _ _ (with_cells-float r.cells _ refl) (rows-float rows)
-
-refusal_data-float : (refusal : Refusal) → has_float (refusal_data refusal) ≡ false
-unfolding refusal_data
-refusal_data-float (BadDefinition kind place) = refl
-refusal_data-float (Malformed place) = refl
-refusal_data-float UnknownCaller = refl
-refusal_data-float OutOfMemory = refl
-refusal_data-float NotBuilt = refl
 
 pub reply_data-float : (reply : Reply) → has_float (reply_data reply) ≡ false
 unfolding reply_data

@@ -1,12 +1,10 @@
 -- A reply is one line: compact JSON with members in ascending byte order, and a line feed.
 use Rattle.std.specs.Prelude.{ℕ, List, [], ◌∷◌, ◌++◌, Option, Some, None, false, map, codes, encode_utf8_all}
-use Rattle.std.specs.List.{flat_map}
 use Rattle.serde_json.specs.Data.{Data, null, boolean, number, unsigned, string, array, object, Members, no_members, member, put}
 use Rattle.serde_json.specs.View.{items_of}
 use Rattle.serde_json.specs.Written.{compact_text}
-use Rattle.dv_value.specs.Ids.{id_text}
+use Rattle.dv_value.specs.Printed.{id_data, text_data}
 use Rattle.dv_value.specs.Refusals.{refusal_data}
-use Rattle.dv_value.specs.declared.id.Id.{Id}
 use Rattle.dv_value.specs.declared.refusal.Refusal.{Refusal}
 use Rattle.dv_value.specs.declared.refusal.Refusal.TheVariants.{BadDefinition}
 use Rattle.dv_service.specs.declared.reply.Cell.{Cell}
@@ -14,13 +12,10 @@ use Rattle.dv_service.specs.declared.reply.Shown.{Shown}
 use Rattle.dv_service.specs.declared.reply.Reply.{Reply}
 use Rattle.dv_service.specs.declared.reply.Reply.TheVariants.{Opened, Created, Rows, Refused}
 
-abbrev pub id_data : Id → Data
-id_data id = string (id_text id.0)
-
 -- an empty cell is null
 abbrev pub cell_data : Option (List ℕ) → Data
 cell_data None = null
-cell_data (Some text) = string (encode_utf8_all text)
+cell_data (Some text) = text_data text
 
 -- the cells, put into the members one after another
 unfoldable pub with_cells : List Cell → Members → Members

@@ -1,5 +1,6 @@
 pub mod Amounts
 pub mod Characters
+pub mod Floats
 pub mod Moments
 pub mod Orders
 pub mod Printing

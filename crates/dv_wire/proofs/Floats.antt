@@ -1,17 +1,12 @@
 -- No reply has a float in it.
 use Rattle.std.proofs.Common.{◌≡◌, ℕ, ℤ, pos, negsuc, List, [], ◌∷◌, map, Bool, true, false, ◌||◌, Option, Some, None, refl, sym, ◌∙◌, ap, subst, encode_utf8_all, Ordering, Less, Equal, Greater}
-use Rattle.std.specs.Ordering.{nat_cmp, match_ordering}
-use Rattle.std.specs.Cmp.Lexicographic.{slice_cmp}
-use Rattle.serde_json.specs.Data.{Data, Members, no_members, member, put, number}
-use Rattle.serde_json.specs.Find.{of_integer, is_float}
+use Rattle.serde_json.specs.Data.{Data, Members}
 use Rattle.serde_json.specs.View.{items_of}
 use Rattle.serde_json.specs.Written.{has_float, members_have_float, items_have_float}
-use Rattle.dv_value.specs.Printed.{raw_data, with_values, values_data}
-use Rattle.dv_value.specs.Refusals.{details_of, refusal_members}
+use Rattle.dv_value.specs.Printed.{id_data, values_data}
 use Rattle.dv_value.specs.declared.raw.Raw.{Raw}
-use Rattle.dv_value.specs.declared.raw.Raw.TheVariants.{Null, Bool as Flag, Int, Str}
 use Rattle.dv_value.specs.declared.refusal.Refusal.{Refusal}
-use Rattle.dv_value.specs.declared.refusal.Refusal.TheVariants.{StepFailed}
+use Rattle.dv_value.proofs.Floats.{either_of, integer-float, put-float, raw-float, values-float, refusal_members-float}
 use Rattle.dv_value.specs.declared.id.Id.{Id}
 use Rattle.dv_request.specs.declared.reply.Change.{Change}
 use Rattle.dv_request.specs.declared.reply.Change.TheVariants.{Row, Removed}
@@ -21,49 +16,6 @@ use Rattle.dv_request.specs.declared.reply.Reply.TheOpen.{Reply-F}
 use Rattle.dv_request.specs.declared.reply.Reply.TheViews.{roll-Reply}
 use Rattle.dv_request.specs.declared.reply.Reply.TheFolds.{fold-Reply, fold-roll-Reply, ind-Reply}
 use Rattle.dv_wire.specs.Printed.{share_data, change_data, bool_or_null, number_or_null, text_or_null, with_item, refused_data, reply_step, reply_data}
-
-either_of : (a b : Bool) → a ≡ false → b ≡ false → (a || b) ≡ false
-either_of true b e f = e
-either_of false b e f = f
-
-first : (a b : Bool) → (a || b) ≡ false → a ≡ false
-first true b e = e
-first false b e = refl
-
-later : (a b : Bool) → (a || b) ≡ false → b ≡ false
-later true b e = absurd (cc)
-later false b e = e
-
-integer-float : (z : ℤ) → is_float (of_integer z) ≡ false
-integer-float (pos n) = refl
-integer-float (negsuc n) = refl
-
-put-float_at : (o : Ordering) (k l : List ℕ) (d e : Data) (ms : Members) → has_float d ≡ false → (members_have_float (put k d ms) ≡ false)
-    → (has_float e || members_have_float ms) ≡ false
-    → members_have_float (match_ordering o (member k d (member l e ms)) (member l d ms) (member l e (put k d ms))) ≡ false
-put-float_at Less k l d e ms f h m = either_of _ _ f m
-put-float_at Equal k l d e ms f h m = either_of _ _ f (later _ _ m)
-put-float_at Greater k l d e ms f h m = either_of _ _ (first _ _ m) h
-
-put-float : (k : List ℕ) (d : Data) (ms : Members) → has_float d ≡ false → members_have_float ms ≡ false → members_have_float (put k d ms) ≡ false
-put-float k d no_members f m = either_of _ _ f refl
-put-float k d (member l e ms) f m = put-float_at (slice_cmp nat_cmp k l) k l d e ms f (put-float k d ms f (later _ _ m)) m
-
-raw-float : (raw : Raw) → has_float (raw_data raw) ≡ false
-unfolding raw_data
-raw-float Null = refl
-raw-float (Flag b) = refl
-raw-float (Int n) = integer-float n
-raw-float (Str text) = refl
-
-with_values-float : (values : List (List ℕ × Raw)) (ms : Members) → members_have_float ms ≡ false → members_have_float (with_values values ms) ≡ false
-unfolding with_values
-with_values-float [] ms m = m
-with_values-float (v ∷ values) ms m = with_values-float values _ (put-float (encode_utf8_all v.0) (raw_data v.1) ms (raw-float v.1) m)
-
-values-float : (values : List (List ℕ × Raw)) → has_float (values_data values) ≡ false
-unfolding values_data
-values-float values = with_values-float values no_members refl
 
 rows-float : (rows : List (List (List ℕ × Raw))) → items_have_float (items_of (map values_data rows)) ≡ false
 rows-float [] = refl
@@ -83,22 +35,17 @@ changes-float : (changes : List Change) → items_have_float (items_of (map chan
 changes-float [] = refl
 changes-float (change ∷ changes) = either_of _ _ (change-float change) (changes-float changes)
 
-ids-float : (ids : List Id) → items_have_float (items_of (map Rattle.dv_value.specs.Printed.id_data ids)) ≡ false
+ids-float : (ids : List Id) → items_have_float (items_of (map id_data ids)) ≡ false
 ids-float [] = refl
 ids-float (id ∷ ids) = ids-float ids
-
-details-float : (refusal : Refusal) → members_have_float (details_of refusal) ≡ false
-unfolding details_of
-details-float (StepFailed code step text) = either_of _ _ (integer-float code) refl
-details-float _ = refl
 
 with_item-float : (item : Option ℕ) (ms : Members) → members_have_float ms ≡ false → members_have_float (with_item item ms) ≡ false
 with_item-float None ms m = m
 with_item-float (Some item) ms m = put-float _ _ ms refl m
 
 refused-float : (refusal : Refusal) (item : Option ℕ) → has_float (refused_data refusal item) ≡ false
-unfolding refused_data refusal_members
-refused-float refusal item = either_of _ _ (with_item-float item _ (put-float _ _ (details_of refusal) refl (details-float refusal))) refl
+unfolding refused_data
+refused-float refusal item = either_of _ _ (with_item-float item _ (refusal_members-float refusal)) refl
 
 or_null-flag : (flag : Option Bool) → has_float (bool_or_null flag) ≡ false
 or_null-flag None = refl

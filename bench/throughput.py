@@ -1,0 +1,55 @@
+#!/usr/bin/env python3
+"""Feeds the built program 5,000 creations and 100 queries, and prints requests and bytes a second.
+
+    bench/throughput.py [PROGRAM]      PROGRAM is crates/orgsvc/out/orgsvc, as `rt run` in crates/orgsvc builds it
+
+The ratio is against a peer in the same run: Python's own json, which reads every line and prints it again.
+"""
+import json
+import os
+import subprocess
+import sys
+import time
+
+TOP = os.path.dirname(os.path.dirname(os.path.abspath(__file__)))
+PROGRAM = sys.argv[1] if len(sys.argv) > 1 else os.path.join(TOP, "crates/orgsvc/out/orgsvc")
+ROOT, ADMIN = "00000000-0000-0000-0000-000000000064", "00000000-0000-0000-0000-000000000065"
+CREATIONS, QUERIES = 5_000, 100
+
+
+def line(value):
+    return json.dumps(value, separators=(",", ":")) + "\n"
+
+
+definition = line({"root": ROOT, "admin": ADMIN, "tables": [
+    {"name": "account", "owned": "user", "columns": [{"name": "name", "type": "text", "max": 100}]}]})
+creations = [line({"caller": ADMIN, "do": "create", "table": "account", "values": {"name": f"Account {k}"}})
+             for k in range(CREATIONS)]
+queries = [line({"caller": ADMIN, "do": "query", "table": "account", "columns": ["name"]})] * QUERIES
+
+
+def timed(lines):
+    data = "".join(lines).encode()
+    start = time.perf_counter()
+    run = subprocess.run([PROGRAM, "run"], input=data, stdout=subprocess.PIPE, check=True)
+    return time.perf_counter() - start, len(data), len(run.stdout), run.stdout
+
+
+def peer(lines, replies):
+    start = time.perf_counter()
+    for each in lines:
+        json.loads(each)
+    for each in replies.splitlines():
+        json.dumps(json.loads(each))
+    return time.perf_counter() - start
+
+
+for name, lines in (("creations", [definition] + creations), ("creations and queries", [definition] + creations + queries)):
+    seconds, taken, given, replies = timed(lines)
+    other = peer(lines, replies)
+    print(f"{name}: {len(lines) / seconds:,.0f} requests/s, {taken / seconds / 1e6:,.1f} MB/s in, "
+          f"{given / seconds / 1e6:,.1f} MB/s out, {seconds:.2f} s, {other / seconds:.2f} times the speed of Python's json")
+
+# A line above the limit is read to its end and refused.
+seconds, taken, given, replies = timed([definition, "x" * 200_000_000 + "\n"])
+print(f"one line of {taken / 1e6:,.0f} MB: {taken / seconds / 1e6:,.0f} MB/s, answered {replies.splitlines()[-1].decode()}")
