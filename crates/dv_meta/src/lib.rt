@@ -1,0 +1,19 @@
+//! The table definition of an organisation: tables, relationships, registrations of steps and the opening directory.
+//!
+//! The layers above may rest on this: a definition is accepted whole or refused with its first fault; in an accepted
+//! one every name is resolved to a number, every lookup has its relationship, a table is the child of at most one
+//! parental relationship, every rollup can be calculated, and the opening directory can be made.
+#![tactic(auto)]
+
+mod draft;
+mod fault;
+mod opening;
+mod registration;
+mod relationship;
+mod table;
+
+pub use fault::{DefFault, DefKind};
+pub use opening::{Action, Entry, Opening, OpeningTeam, OpeningUnit, OpeningUser, Role};
+pub use registration::{Message, Registration};
+pub use relationship::{Cascade, Relationship};
+pub use table::{Column, ColumnRole, Rollup, RollupKind, Table};
