@@ -1,3 +1,5 @@
 pub mod Depths
 pub mod Faults
 pub mod Integers
+pub mod Reading
+pub mod Shorts

@@ -1,7 +1,7 @@
 -- What is read of a JSON value: an id, a text, a flag or an integer that it is, or that the member of a name is.
-use Rattle.std.specs.Prelude.{ℕ, ℤ, pos, negsuc, List, [], ◌∷◌, ◌&&◌, Bool, false, nat_lt, int_le, if◌then◌else◌, Option, None, option_map, option_and_then, unwrap_or, chars}
-use Rattle.serde_json.specs.Data.{Data, null, boolean, number, string, array, object, Members, no_members}
-use Rattle.serde_json.specs.Find.{as_str, as_number, as_i64}
+use Rattle.std.specs.Prelude.{ℕ, ℤ, pos, negsuc, List, [], ◌∷◌, ◌^◌, Bool, false, nat_lt, if◌then◌else◌, Option, option_map, option_and_then, unwrap_or, chars}
+use Rattle.serde_json.specs.Data.{Data, null, boolean, number, string, array, object, Members, no_members, Items, no_items, item}
+use Rattle.serde_json.specs.Find.{as_str, as_bool, as_number, as_array, as_object, as_i64, as_u64}
 use Rattle.dv_value.specs.Ids.{id_of}
 use Rattle.dv_value.specs.Raws.{values_of}
 use Rattle.dv_value.specs.declared.raw.Raw.{Raw}
@@ -42,9 +42,14 @@ id_of_json d = unwrap_or (id_in d) (record { 0 = 0 })
 unfoldable pub integer_of : Data → ℤ
 integer_of d = unwrap_or (integer_in d) (pos 0)
 
+-- whether an integer has 32 bits: it is from -2^31 to 2^31 - 1
+unfoldable pub is_short : ℤ → Bool
+is_short (pos n) = nat_lt n (2 ^ 31)
+is_short (negsuc n) = nat_lt n (2 ^ 31)
+
 -- an integer of 32 bits, else 0
 unfoldable pub short_of : Data → ℤ
-short_of d = if int_le (negsuc 2147483647) (integer_of d) && int_le (integer_of d) (pos 2147483647) then integer_of d else pos 0
+short_of d = if is_short (integer_of d) then integer_of d else pos 0
 
 -- a natural number below a limit, else 0
 unfoldable pub natural_below : ℕ → Option Data → ℕ

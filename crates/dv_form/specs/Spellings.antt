@@ -1,5 +1,5 @@
 -- What each spelling admits.
-use Rattle.std.specs.Prelude.{ℕ, ℤ, pos, negsuc, List, [], ◌∷◌, ◌==◌, ◌&&◌, ◌||◌, Bool, false, not, nat_le, int_le, length, codes, Option, Some, None}
+use Rattle.std.specs.Prelude.{ℕ, ℤ, List, [], ◌∷◌, ◌==◌, ◌&&◌, ◌||◌, Bool, false, not, nat_le, int_le, length, codes, Option, Some, None}
 use Rattle.std.specs.Char.{is_ascii_lowercase, is_ascii_digit}
 use Rattle.std.specs.List.{list_any, list_all}
 use Rattle.std.specs.Option.{is_some}
@@ -28,10 +28,6 @@ is_name (c ∷ cs) = is_ascii_lowercase c && (nat_le (length cs) 49 && list_all 
 -- both ends are included
 unfoldable pub is_between : ℤ → ℤ → ℤ → Bool
 is_between low high n = int_le low n && int_le n high
-
--- an integer of 32 bits
-abbrev pub is_short : ℤ → Bool
-is_short n = is_between (negsuc 2147483647) (pos 2147483647) n
 
 -- whether a value is this integer
 unfoldable pub is_integer : ℤ → Data → Bool

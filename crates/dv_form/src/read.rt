@@ -89,11 +89,11 @@ impl FromJson for Text {
 
     ghost of_json = { text_of };
 
-    #[tactic(auto, unfolding(crate::specs::Members::text_of))]
+    #[tactic(auto, unfolding(crate::specs::Members::text_of, crate::specs::Members::text_in))]
     fn from_json(alloc: Global, json: &Json) -> Result<Text, AllocError> {
         match json.as_str() {
             Some(text) => Ok(Text::from_str(alloc, text)?),
-            None => Ok(Text::from_string(String::new(alloc))),
+            None => Text::from_str(alloc, ""),
         }
     }
 }
@@ -103,6 +103,7 @@ impl FromJson for Values {
 
     ghost of_json = { raw_values_of };
 
+    #[tactic(auto, unfolding(crate::specs::Members::raw_values_of))]
     fn from_json(alloc: Global, json: &Json) -> Result<Values, AllocError> {
         match json.as_object() {
             Some(members) => match Values::from_json(alloc, members)? {
@@ -121,10 +122,18 @@ impl<T: FromJson> FromJson for Items<T> {
     ghost of_json = { λ d. map T.of_json (list_of d) };
 
     fn from_json(alloc: Global, json: &Json) -> Result<Items<T>, AllocError> {
-        match json.as_array() {
-            Some(items) => Ok(read_items(alloc, items.as_slice())?),
-            None => Ok(Items::new(alloc)),
-        }
+        read_items(alloc, items_in(json))
+    }
+}
+
+// The items of a list, else none.
+#[tactic(auto, unfolding(crate::specs::Members::list_of))]
+fn items_in(json: &Json) -> &[Json]
+    ensures { map view result.now ≡ say.list_of (view json.now) }
+{
+    match json.as_array() {
+        Some(items) => items.as_slice(),
+        None => &[],
     }
 }
 
