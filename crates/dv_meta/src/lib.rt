@@ -7,6 +7,7 @@
 
 mod draft;
 mod fault;
+mod grammar;
 mod opening;
 mod registration;
 mod relationship;
