@@ -51,9 +51,13 @@ is_short (negsuc n) = nat_lt n (2 ^ 31)
 unfoldable pub short_of : Data → ℤ
 short_of d = if is_short (integer_of d) then integer_of d else pos 0
 
+-- a natural number of 64 bits, else 0
+unfoldable pub natural_of : Data → ℕ
+natural_of d = unwrap_or (option_and_then as_u64 (as_number d)) 0
+
 -- a natural number below a limit, else 0
-unfoldable pub natural_below : ℕ → Option Data → ℕ
-natural_below limit d = unwrap_or (option_map (λ n. if nat_lt n limit then n else 0) (option_and_then as_u64 (option_and_then as_number d))) 0
+unfoldable pub natural_below : ℕ → Data → ℕ
+natural_below limit d = if nat_lt (natural_of d) limit then natural_of d else 0
 
 -- a text, else the empty one
 unfoldable pub text_of : Data → List ℕ

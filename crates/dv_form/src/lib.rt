@@ -18,6 +18,6 @@ mod walk;
 pub use fault::{Fault, FaultKind};
 pub use form::{Bar, Case, Form, Grammar, Member, Table};
 pub use members::{id_in, integer_in};
-pub use read::{FromJson, natural_below, read_at, read_given};
+pub use read::{FromJson, read_at, read_given};
 pub use spelling::{Spelling, is_name};
 pub use walk::first_fault;

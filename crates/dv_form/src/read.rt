@@ -84,6 +84,36 @@ impl FromJson for i32 {
     }
 }
 
+impl FromJson for u8 {
+    ghost use Rattle.dv_form.specs.Members.{natural_below};
+
+    ghost of_json = { natural_below 256 };
+
+    fn from_json(_alloc: Global, json: &Json) -> Result<u8, AllocError> {
+        Ok(byte_of(json))
+    }
+}
+
+impl FromJson for u32 {
+    ghost use Rattle.dv_form.specs.Members.{natural_below};
+
+    ghost of_json = { natural_below 4294967296 };
+
+    fn from_json(_alloc: Global, json: &Json) -> Result<u32, AllocError> {
+        Ok(count_of(json))
+    }
+}
+
+impl FromJson for usize {
+    ghost use Rattle.dv_form.specs.Members.{natural_of};
+
+    ghost of_json = { natural_of };
+
+    fn from_json(_alloc: Global, json: &Json) -> Result<usize, AllocError> {
+        Ok(natural_of(json) as usize)
+    }
+}
+
 impl FromJson for Text {
     ghost use Rattle.dv_form.specs.Members.{text_of};
 
@@ -179,13 +209,26 @@ fn short_of(json: &Json) -> i32
     i32::try_from(integer_of(json)).unwrap_or(0)
 }
 
-/// The natural number below a limit that a value is, else 0.
-#[tactic(auto, unfolding(crate::specs::Members::natural_below))]
-pub fn natural_below(json: Option<&Json>, limit: u64) -> u64
-    ensures { result ≡ say.natural_below limit (option_map (λ v. view v.now) json.entry) }
+// The natural number of 64 bits that a value is, else 0.
+#[tactic(auto, unfolding(crate::specs::Members::natural_of))]
+fn natural_of(json: &Json) -> u64
+    ensures { result ≡ say.natural_of (view json.now) }
 {
-    match json.and_then(Json::as_u64) {
-        Some(n) => if n < limit { n } else { 0 },
-        None => 0,
-    }
+    json.as_u64().unwrap_or(0)
+}
+
+// The natural number of 8 bits that a value is, else 0.
+#[tactic(auto, using(crate::proofs::Shorts::natural_narrowed), unfolding(crate::specs::Members::natural_below))]
+fn byte_of(json: &Json) -> u8
+    ensures { result ≡ say.natural_below 256 (view json.now) }
+{
+    u8::try_from(natural_of(json)).unwrap_or(0)
+}
+
+// The natural number of 32 bits that a value is, else 0.
+#[tactic(auto, using(crate::proofs::Shorts::natural_narrowed), unfolding(crate::specs::Members::natural_below))]
+fn count_of(json: &Json) -> u32
+    ensures { result ≡ say.natural_below 4294967296 (view json.now) }
+{
+    u32::try_from(natural_of(json)).unwrap_or(0)
 }

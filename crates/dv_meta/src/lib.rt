@@ -9,6 +9,7 @@ mod draft;
 mod fault;
 mod grammar;
 mod opening;
+mod reading;
 mod registration;
 mod relationship;
 mod table;
