@@ -13,6 +13,8 @@ mod parts;
 mod read;
 mod spelling;
 mod table;
+#[cfg(test)]
+mod tests;
 mod walk;
 
 pub use fault::{Fault, FaultKind};

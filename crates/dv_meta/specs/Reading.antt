@@ -36,7 +36,7 @@ abbrev pub at : String → Data → Data
 at name d = unwrap_or (get (codes name) d) null
 
 -- whether a value is this word
-unfoldable pub says : String → Data → Bool
+abbrev pub says : String → Data → Bool
 says word d = bytes_eq (unwrap_or (as_str d) []) (codes word)
 
 -- ---- words
