@@ -1,4 +1,5 @@
 pub mod Depths
+pub mod Faultless
 pub mod Faults
 pub mod Integers
 pub mod Reading

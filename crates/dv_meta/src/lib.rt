@@ -7,6 +7,7 @@
 
 mod draft;
 mod fault;
+mod form;
 mod grammar;
 mod opening;
 mod reading;
