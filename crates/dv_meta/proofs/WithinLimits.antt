@@ -1,5 +1,5 @@
 -- A text without a fault of form is within its limits.
-use Rattle.std.proofs.Common.{◌≡◌, ◌∙◌, sym, refl, ap, subst, ℕ, zero, suc, ◌≤◌, List, [], ◌∷◌, map, length, Option, Some, None}
+use Rattle.std.proofs.Common.{◌≡◌, ◌∙◌, sym, refl, ap, subst, ℕ, zero, suc, ◌≤◌, List, [], ◌∷◌, map, length, drop, Option, Some, None}
 use Rattle.std.proofs.lemmas.List.{length-map}
 use Rattle.std.specs.List.{slice_get}
 use Rattle.serde_json.specs.Data.{Data}
@@ -8,7 +8,7 @@ use Rattle.dv_form.specs.Walk.{Found, judged_member, judged_object, decided, mem
 use Rattle.dv_form.specs.Members.{members_in}
 use Rattle.dv_form.specs.Members as say
 use Rattle.dv_form.proofs.Faultless.{or_none, plain_free, member_list_free, member_item_free}
-use Rattle.dv_meta.specs.Grammar.{tables, needs, may}
+use Rattle.dv_meta.specs.Grammar.{tables, table, needs, may}
 use Rattle.dv_meta.specs.Limits.{IsWithinLimits}
 use Rattle.dv_meta.specs.Reading.{at, draft_of, table_of, column_of, relationship_of, registration_of}
 use Rattle.dv_meta.specs.declared.draft.DraftTable.{DraftTable}
@@ -42,17 +42,20 @@ definition_free d e =
 columns_free : (d : Data) → first_fault tables d (object_of Table) ≡ None → Free d (needs "columns" (list_of (object_of Column) (Some 60)))
 unfolding tables judged_object decided members_fault
 columns_free d e =
-    let members = (or_none _ _ (or_none _ _ (plain_free tables d Table e)).1).0 in
-    let from_columns = (or_none _ _ (or_none _ _ (or_none _ _ members).1).1).1 in
+    let look = fault_at tables (members_in d) in
+    let members : members_fault d look table.members ≡ None = (or_none _ _ (or_none _ _ (plain_free tables d Table e)).1).0 in
+    let from_owned : members_fault d look (drop 1 table.members) ≡ None = (or_none _ _ members).1 in
+    let from_tracking : members_fault d look (drop 2 table.members) ≡ None = (or_none _ _ from_owned).1 in
+    let from_columns : members_fault d look (drop 3 table.members) ≡ None = (or_none _ _ from_tracking).1 in
     (or_none _ _ from_columns).0
 
 few_columns : (d : Data) → first_fault tables d (object_of Table) ≡ None → length (table_of d).columns ≤ 60
 unfolding table_of
 few_columns d e = rw length-map (member_list_free tables d (needs "columns" (list_of (object_of Column) (Some 60))) (object_of Column) 60 _ refl refl (columns_free d e))
 
-few_columns_each : (d : Data) → DefinitionFree d → (i : ℕ) (table : DraftTable) → slice_get (map table_of (say.list_of (at "tables" d))) i ≡ Some table → length table.columns ≤ 60
-few_columns_each d free i table e =
-    let found = mapped table_of (say.list_of (at "tables" d)) i table e in
+few_columns_each : (d : Data) → DefinitionFree d → (i : ℕ) (one : DraftTable) → slice_get (map table_of (say.list_of (at "tables" d))) i ≡ Some one → length one.columns ≤ 60
+few_columns_each d free i one_table e =
+    let found = mapped table_of (say.list_of (at "tables" d)) i one_table e in
     let one = member_item_free tables d (needs "tables" (list_of (object_of Table) (Some 100))) (object_of Table) 100 _ i found.0 refl refl free.tables_free found.1 in
     subst (λ (t : DraftTable). length t.columns ≤ 60) (sym found.2) (few_columns found.0 one)
 
