@@ -1,16 +1,18 @@
 -- A text without a fault of form is within its limits.
-use Rattle.std.proofs.Common.{◌≡◌, ◌∙◌, sym, refl, ap, subst, ℕ, zero, suc, ◌≤◌, List, [], ◌∷◌, map, length, drop, Option, Some, None}
+use Rattle.std.proofs.Common.{◌≡◌, sym, refl, subst, ℕ, zero, suc, ◌≤◌, List, [], ◌∷◌, map, length, drop, Option, Some, None}
 use Rattle.std.proofs.lemmas.List.{length-map}
 use Rattle.std.specs.List.{slice_get}
 use Rattle.serde_json.specs.Data.{Data}
-use Rattle.dv_form.specs.Forms.{Object, Member, Form, list_of, object_of}
+use Rattle.dv_form.specs.Forms.{Member, list_of, object_of}
 use Rattle.dv_form.specs.Walk.{Found, judged_member, judged_object, decided, members_fault, first_fault, fault_at}
 use Rattle.dv_form.specs.Members.{members_in}
+use Rattle.std.specs.Option.{option_map}
+use Rattle.dv_form.specs.Found.{fault_of}
 use Rattle.dv_form.specs.Members as say
 use Rattle.dv_form.proofs.Faultless.{or_none, plain_free, member_list_free, member_item_free}
 use Rattle.dv_meta.specs.Grammar.{tables, table, needs, may}
 use Rattle.dv_meta.specs.Limits.{IsWithinLimits}
-use Rattle.dv_meta.specs.Reading.{at, draft_of, table_of, column_of, relationship_of, registration_of}
+use Rattle.dv_meta.specs.Reading.{at, draft_of, table_of}
 use Rattle.dv_meta.specs.declared.draft.DraftTable.{DraftTable}
 use Rattle.dv_meta.specs.declared.grammar.Rule.{Rule}
 use Rattle.dv_meta.specs.declared.grammar.Rule.TheVariants.{Definition, Table, Column, Relationship, Registration}
@@ -69,3 +71,8 @@ within_limits d e =
       relationships = rw length-map (member_list_free tables d (may "relationships" (list_of (object_of Relationship) (Some 300))) (object_of Relationship) 300 _ refl refl free.relationships_free);
       steps = rw length-map (member_list_free tables d (may "steps" (list_of (object_of Registration) (Some 500))) (object_of Registration) 500 _ refl refl free.steps_free);
     }
+
+-- no fault is told where none was found
+pub untold : (found : Option Found) → option_map fault_of found ≡ None → found ≡ None
+untold None e = refl
+untold (Some f) e = absurd (cc)

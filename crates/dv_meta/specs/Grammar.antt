@@ -1,5 +1,5 @@
 -- The form of a definition, object by object: each member with its form, in the order in which they are looked at.
-use Rattle.std.specs.Prelude.{ℕ, ℤ, pos, negsuc, List, [], ◌∷◌, Bool, true, false, codes, Option, Some, None}
+use Rattle.std.specs.Prelude.{pos, negsuc, List, [], ◌∷◌, true, false, codes, Some, None}
 use Prim.Native.String.{String}
 use Rattle.dv_form.specs.Forms.{Spelling, real_id, any_id, a_name, a_name_or_star, a_flag, integer_from, integer_among, word_among, Form, value, raw_values, object_of, tuple_of, list_of, distinct_integers, Bar, is_word, is_not_integer, is_same_id, Member, Case, Object}
 use Rattle.dv_meta.specs.declared.grammar.Rule.{Rule}

@@ -1,5 +1,5 @@
 -- What a text of a definition's form says: each member as its table lists it, with what stands where one is missing. What a text of another form gives is of no account, since it is refused before it is read.
-use Rattle.std.specs.Prelude.{ℕ, ℤ, pos, negsuc, List, [], ◌∷◌, map, Bool, true, false, codes, Option, Some, None, option_map, option_and_then, unwrap_or, if◌then◌else◌}
+use Rattle.std.specs.Prelude.{ℕ, pos, negsuc, List, [], map, Bool, codes, Option, Some, None, option_map, unwrap_or, if◌then◌else◌}
 use Prim.Native.String.{String}
 use Rattle.std.specs.Str.{bytes_eq}
 use Rattle.serde_json.specs.Data.{Data, null}

@@ -1,6 +1,7 @@
 ghost use Rattle.std.specs.Prelude.{◌≡◌, Some, None, IfOk, IfErr};
 ghost use Rattle.serde_json.specs.View.{view};
 ghost use Rattle.dv_meta.specs.Form as say;
+ghost use Rattle.dv_meta.specs.Limits.{IsWithinLimits};
 ghost use Rattle.dv_meta.specs.Reading.{draft_of};
 
 use crate::draft::Draft;
@@ -21,6 +22,7 @@ pub(crate) fn read_form(alloc: Global, bytes: &[u8]) -> Result<Draft, DefFault>
     ensures fault { IfErr result (λ fault. (fault ≡ DefFault.OutOfMemory → ⊥) → say.form_fault bytes.now ≡ Some fault) }
     ensures accepted { IfOk result (λ draft. say.form_fault bytes.now ≡ None) }
     ensures draft { IfOk result (λ draft. draft ≡ say.draft_in bytes.now) }
+    ensures limits { IfOk result (λ draft. IsWithinLimits draft) }
 {
     if bytes.len() > MAX_LEN {
         return Err(not_json(alloc));
@@ -38,6 +40,7 @@ fn read_object(alloc: Global, json: &Json) -> Result<Draft, DefFault>
     ensures fault { IfErr result (λ fault. (fault ≡ DefFault.OutOfMemory → ⊥) → say.fault_in (view json.now) ≡ Some fault) }
     ensures accepted { IfOk result (λ draft. say.fault_in (view json.now) ≡ None) }
     ensures draft { IfOk result (λ draft. draft ≡ draft_of (view json.now)) }
+    ensures limits { IfOk result (λ draft. IsWithinLimits draft) }
 {
     if !json.is_object() {
         return Err(not_json(alloc));
