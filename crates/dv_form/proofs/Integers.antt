@@ -6,9 +6,9 @@ use Rattle.serde_json.specs.Data.{Data, no_items}
 use Rattle.serde_json.specs.View.{view, items_view}
 use Rattle.serde_json.specs.declared.value.Value.{Value}
 use Rattle.dv_form.specs.Integers.{AreIn}
-use Rattle.dv_form.specs.Members.{integer_in}
+use Rattle.dv_form.specs.Members.{integer_in, is_short}
 use Rattle.dv_form.specs.Places.{into_item}
-use Rattle.dv_form.specs.Spellings.{is_short, is_integer}
+use Rattle.dv_form.specs.Spellings.{is_integer}
 use Rattle.dv_form.specs.Walk.{inside, here, is_new_integer, new_integers_fault, distinct_fault}
 use Rattle.dv_form.specs.declared.fault.FaultKind.TheVariants.{Wrong}
 

@@ -30,10 +30,6 @@ is_name (c ∷ cs) = is_ascii_lowercase c && (nat_le (length cs) 49 && list_all 
 unfoldable pub is_between : ℤ → ℤ → ℤ → Bool
 is_between low high n = int_le low n && int_le n high
 
--- an integer of 32 bits
-abbrev pub is_short : ℤ → Bool
-is_short n = is_between (negsuc 2147483647) (pos 2147483647) n
-
 -- whether a value is this integer
 unfoldable pub is_integer : ℤ → Data → Bool
 is_integer n d = passes (λ m. int_eq m n) (integer_in d)

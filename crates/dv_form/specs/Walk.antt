@@ -10,9 +10,9 @@ use Rattle.serde_json.specs.Events.{items_len}
 use Rattle.serde_json.specs.Find.{get, as_str, as_array, as_object}
 use Rattle.dv_value.specs.Raws.{raw_of}
 use Rattle.dv_form.specs.Forms.{Spelling, Form, value, raw_values, object_of, tuple_of, list_of, distinct_integers, Bar, given, is_word, is_not_integer, is_same_id, Member, Case, Object}
-use Rattle.dv_form.specs.Members.{id_in, integer_in, members_in}
+use Rattle.dv_form.specs.Members.{id_in, integer_in, is_short, members_in}
 use Rattle.dv_form.specs.Places.{Step, into_member, into_item}
-use Rattle.dv_form.specs.Spellings.{passes, is_short, is_integer, is_spelled}
+use Rattle.dv_form.specs.Spellings.{passes, is_integer, is_spelled}
 use Rattle.dv_form.specs.declared.fault.FaultKind.{FaultKind}
 use Rattle.dv_form.specs.declared.fault.FaultKind.TheVariants.{Unlisted, Wrong, TooLong}
 

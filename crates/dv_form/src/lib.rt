@@ -10,12 +10,16 @@ mod form;
 mod found;
 mod members;
 mod parts;
+mod read;
 mod spelling;
 mod table;
+#[cfg(test)]
+mod tests;
 mod walk;
 
 pub use fault::{Fault, FaultKind};
 pub use form::{Bar, Case, Form, Grammar, Member, Table};
 pub use members::{id_in, integer_in};
+pub use read::{FromJson, read_at, read_given};
 pub use spelling::{Spelling, is_name};
 pub use walk::first_fault;

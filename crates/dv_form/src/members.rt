@@ -20,3 +20,10 @@ pub fn integer_in(json: &Json) -> Option<i64>
 {
     json.as_i64()
 }
+
+/// Whether an integer has 32 bits: it is from -2^31 to 2^31 - 1.
+pub(crate) fn is_short(n: i64) -> bool
+    ensures { result ≡ say.is_short n }
+{
+    i32::try_from(n).is_ok()
+}

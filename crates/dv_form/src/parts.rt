@@ -6,8 +6,8 @@ ghost use Rattle.dv_form.specs.Walk as walk;
 
 use crate::fault::FaultKind;
 use crate::found::Found;
-use crate::members::integer_in;
-use crate::spelling::{Spelling, is_between, is_raw};
+use crate::members::{integer_in, is_short};
+use crate::spelling::{Spelling, is_raw};
 use serde_json::{Map, Value as Json};
 use std::alloc::{AllocError, Global};
 use std::collections::BTreeSet;
@@ -72,7 +72,7 @@ fn is_new_integer(before: &mut BTreeSet<i64>, item: &Json) -> Result<bool, Alloc
 {
     match integer_in(item) {
         Some(n) => {
-            if !is_between(-2_147_483_648, 2_147_483_647, n) {
+            if !is_short(n) {
                 return Ok(false);
             }
             Ok(add(before, n)?)

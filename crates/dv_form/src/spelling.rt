@@ -134,9 +134,9 @@ impl Spelling {
     }
 }
 
-/// Whether an integer is from one to another, both included.
+// Whether an integer is from one to another, both included.
 #[tactic(auto, unfolding(crate::specs::Spellings::is_between))]
-pub(crate) fn is_between(low: i64, high: i64, n: i64) -> bool
+fn is_between(low: i64, high: i64, n: i64) -> bool
     ensures { result ≡ say.is_between low high n }
 {
     low <= n && n <= high

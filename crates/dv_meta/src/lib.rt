@@ -7,7 +7,10 @@
 
 mod draft;
 mod fault;
+mod form;
+mod grammar;
 mod opening;
+mod reading;
 mod registration;
 mod relationship;
 mod table;

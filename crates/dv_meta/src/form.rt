@@ -1,0 +1,158 @@
+ghost use Rattle.std.specs.Prelude.{◌≡◌, Some, None, IfOk, IfErr};
+ghost use Rattle.serde_json.specs.View.{view};
+ghost use Rattle.dv_meta.specs.Form as say;
+ghost use Rattle.dv_meta.specs.Limits.{IsWithinLimits};
+ghost use Rattle.dv_meta.specs.Reading.{draft_of};
+
+use crate::draft::Draft;
+use crate::fault::{DefFault, DefKind};
+use crate::grammar::Rule;
+use crate::reading::read_draft;
+use dv_form::{Fault, FaultKind, first_fault};
+use dv_value::{JsonFault, Text, read_json};
+use serde_json::Value as Json;
+use std::alloc::Global;
+
+/// The most bytes that a definition may have.
+const MAX_LEN: usize = 1_048_576;
+
+/// What a text says, or the first fault of its form.
+#[tactic(auto, unfolding(crate::specs::Form::form_fault, crate::specs::Form::fault_of_read, crate::specs::Form::draft_in))]
+pub(crate) fn read_form(alloc: Global, bytes: &[u8]) -> Result<Draft, DefFault>
+    ensures fault { IfErr result (λ fault. (fault ≡ DefFault.OutOfMemory → ⊥) → say.form_fault bytes.now ≡ Some fault) }
+    ensures accepted { IfOk result (λ draft. say.form_fault bytes.now ≡ None) }
+    ensures draft { IfOk result (λ draft. draft ≡ say.draft_in bytes.now) }
+    ensures limits { IfOk result (λ draft. IsWithinLimits draft) }
+{
+    if bytes.len() > MAX_LEN {
+        return Err(not_json(alloc));
+    }
+    match read_json(alloc, bytes) {
+        Ok(json) => read_object(alloc, &json),
+        Err(JsonFault::Malformed) => Err(not_json(alloc)),
+        Err(JsonFault::OutOfMemory) => Err(DefFault::OutOfMemory),
+    }
+}
+
+// What a JSON value says, or the first fault of its form.
+#[tactic(auto, unfolding(crate::specs::Form::fault_in))]
+fn read_object(alloc: Global, json: &Json) -> Result<Draft, DefFault>
+    ensures fault { IfErr result (λ fault. (fault ≡ DefFault.OutOfMemory → ⊥) → say.fault_in (view json.now) ≡ Some fault) }
+    ensures accepted { IfOk result (λ draft. say.fault_in (view json.now) ≡ None) }
+    ensures draft { IfOk result (λ draft. draft ≡ draft_of (view json.now)) }
+    ensures limits { IfOk result (λ draft. IsWithinLimits draft) }
+{
+    if !json.is_object() {
+        return Err(not_json(alloc));
+    }
+    match first_fault(alloc, json, Rule::Definition) {
+        Ok(Some(fault)) => Err(bad(fault)),
+        Ok(None) => match read_draft(alloc, json) {
+            Ok(draft) => Ok(draft),
+            Err(_) => Err(DefFault::OutOfMemory),
+        },
+        Err(_) => Err(DefFault::OutOfMemory),
+    }
+}
+
+// No JSON object, at the empty place.
+fn not_json(alloc: Global) -> DefFault
+    ensures { result ≡ say.not_json }
+{
+    DefFault::Bad {
+        kind: DefKind::NotJson,
+        place: Text::from_string(String::new(alloc)),
+    }
+}
+
+// A fault of form as one of a definition.
+#[tactic(auto, unfolding(crate::specs::Form::kind_of))]
+fn bad(fault: Fault) -> DefFault
+    ensures { result ≡ DefFault.Bad (say.kind_of fault.kind) fault.place }
+{
+    let Fault { kind, place } = fault;
+    match kind {
+        FaultKind::Unlisted => DefFault::Bad {
+            kind: DefKind::UnknownField,
+            place,
+        },
+        FaultKind::Wrong => DefFault::Bad {
+            kind: DefKind::BadForm,
+            place,
+        },
+        FaultKind::TooLong => DefFault::Bad {
+            kind: DefKind::Limit,
+            place,
+        },
+    }
+}
+
+#[cfg(test)]
+mod tests {
+    use super::*;
+    use std::test::Fail;
+
+    #[test]
+    fn the_first_fault_of_form_is_told_at_its_place(rt: HostRuntime) -> Result<(), Fail> {
+        let many = r#"{"zz":1,"a":1}"#;
+        for (text, kind, place) in [
+            ("[]", DefKind::NotJson, ""),
+            ("{", DefKind::NotJson, ""),
+            (many, DefKind::UnknownField, "a"),
+            (
+                r#"{"root":"00000000-0000-0000-0000-000000000000"}"#,
+                DefKind::BadForm,
+                "root",
+            ),
+            (
+                r#"{"root":"00000000-0000-0000-0000-000000000100","admin":"{00000000000000000000000000000100}","tables":[]}"#,
+                DefKind::BadForm,
+                "admin",
+            ),
+            (
+                r#"{"root":"00000000-0000-0000-0000-000000000100","admin":"00000000-0000-0000-0000-000000000101","tables":[{"name":"a","owned":"user","columns":[{"name":"B","type":"whole","max":1}]}]}"#,
+                DefKind::BadForm,
+                "tables[0].columns[0].name",
+            ),
+            (
+                r#"{"root":"00000000-0000-0000-0000-000000000100","admin":"00000000-0000-0000-0000-000000000101","tables":[],"steps":[{"step":0,"message":"delete","table":"a","stage":40,"rank":1,"post":[]}]}"#,
+                DefKind::BadForm,
+                "steps[0].post",
+            ),
+            (
+                r#"{"root":"00000000-0000-0000-0000-000000000100","admin":"00000000-0000-0000-0000-000000000101","tables":[],"roles":[{"id":"00000000-0000-0000-0000-000000000201","inheritance":"team","privileges":[["Read","a"]]}]}"#,
+                DefKind::BadForm,
+                "roles[0].privileges[0]",
+            ),
+        ] {
+            match read_form(rt.alloc(), text.as_bytes()) {
+                Err(
+                    DefFault::Bad {
+                        kind: told,
+                        place: at,
+                    },
+                ) => {
+                    assert_eq!(rt; told, kind, "of {text}");
+                    assert_eq!(rt; at.as_str(), place, "of {text}");
+                }
+                _ => assert!(rt; false, "of {text}"),
+            }
+        }
+        Ok(())
+    }
+
+    #[test]
+    fn a_text_of_the_right_form_is_read(rt: HostRuntime) {
+        let text =
+            r#"{"root":"00000000-0000-0000-0000-000000000100","admin":"00000000-0000-0000-0000-000000000101","tables":[{"name":"a","owned":"user","tracking":true,"columns":[{"name":"b","type":"whole","max":1},{"name":"c","type":"choice","options":[3,-1]},{"name":"d","type":"rollup","kind":"sum","over":"r","of":"b"}]}],"relationships":[{"name":"r","parent":"a","child":"a","column":"b","assign":"active"}],"steps":[{"step":2,"message":"update","table":"a","stage":40,"rank":9,"columns":["b"],"post":["b"],"config":{"x":1}}],"roles":[{"id":"00000000-0000-0000-0000-000000000201","inheritance":"direct","privileges":[["*","*",3],["AppendTo","a",1]]}]}"#;
+        match read_form(rt.alloc(), text.as_bytes()) {
+            Ok(draft) => {
+                assert_eq!(rt; draft.tables.len(), 1);
+                assert_eq!(rt; draft.relationships.len(), 1);
+                assert_eq!(rt; draft.steps.len(), 1);
+                assert_eq!(rt; draft.opening.roles.len(), 1);
+            }
+            Err(_) => assert!(rt; false, "a fault"),
+        }
+    }
+}
