@@ -7,9 +7,14 @@
 
 mod draft;
 mod fault;
+mod index;
+mod names;
 mod opening;
+mod place;
 mod registration;
 mod relationship;
+mod spelling;
+mod system;
 mod table;
 
 pub use fault::{DefFault, DefKind};

@@ -1,0 +1,43 @@
+-- What is found first in a list, item by item.
+use Rattle.std.proofs.Common.{◌≡◌, ℕ, ◌+◌, ◌<◌, ◌≤◌, List, [], ◌∷◌, ◌++◌, length, take, drop, get_or, Option, Some, None, refl, sym, ap, ◌∙◌, arith, add-zero}
+use Rattle.std.specs.Option.{option_or}
+use Rattle.std.proofs.lemmas.List.{drop_more, drop_all}
+use Rattle.dv_meta.specs.First.{first_from}
+
+pub option_or_assoc : {A : Type 0} (a b c : Option A) → option_or a (option_or b c) ≡ option_or (option_or a b) c
+option_or_assoc None b c = refl
+option_or_assoc (Some x) b c = refl
+
+-- an item more at the end
+pub first_from-push : {A B : Type 0} (found : ℕ → A → Option B) (i : ℕ) (xs : List A) (x : A) → first_from found i (xs ++ x ∷ []) ≡ option_or (first_from found i xs) (found (i + length xs) x)
+unfolding first_from
+first_from-push found i [] x = option_or-None (found i x) ∙ ap (λ k. found k x) (sym (add-zero i))
+  where
+    option_or-None : {B : Type 0} (o : Option B) → option_or o None ≡ o
+    option_or-None None = refl
+    option_or-None (Some y) = refl
+first_from-push found i (y ∷ ys) x =
+    let e : i + 1 + length ys ≡ i + length (y ∷ ys) = omega arith in
+    ap (option_or (found i y)) (first_from-push found (i + 1) ys x ∙ ap (λ k. option_or (first_from found (i + 1) ys) (found k x)) e)
+    ∙ option_or_assoc (found i y) (first_from found (i + 1) ys) (found (i + length (y ∷ ys)) x)
+
+-- nothing is found at an item
+pub first_from-more : {A B : Type 0} (found : ℕ → A → Option B) (xs : List A) (i : ℕ) (x : A) → i < length xs → x ≡ get_or xs i x → found i x ≡ None
+    → first_from found i (drop i xs) ≡ first_from found (i + 1) (drop (i + 1) xs)
+unfolding first_from
+first_from-more found xs i x within read none =
+    ap (first_from found i) (drop_more xs i x within) ∙ ap (λ y. option_or (found i y) (first_from found (i + 1) (drop (i + 1) xs))) (sym read)
+    ∙ ap (λ o. option_or o (first_from found (i + 1) (drop (i + 1) xs))) none
+
+-- something is found at an item
+pub first_from-found : {A B : Type 0} (found : ℕ → A → Option B) (xs : List A) (i : ℕ) (x : A) (y : B) → i < length xs → x ≡ get_or xs i x → found i x ≡ Some y
+    → first_from found i (drop i xs) ≡ Some y
+unfolding first_from
+first_from-found found xs i x y within read some =
+    ap (first_from found i) (drop_more xs i x within) ∙ ap (λ z. option_or (found i z) (first_from found (i + 1) (drop (i + 1) xs))) (sym read)
+    ∙ ap (λ o. option_or o (first_from found (i + 1) (drop (i + 1) xs))) some
+
+-- no item is left
+pub first_from-end : {A B : Type 0} (found : ℕ → A → Option B) (xs : List A) (i : ℕ) → length xs ≤ i → first_from found i (drop i xs) ≡ None
+unfolding first_from
+first_from-end found xs i past = ap (first_from found i) (drop_all i xs past)

@@ -1,0 +1,13 @@
+pub mod Columns
+pub mod Faults
+pub mod First
+pub mod Names
+pub mod Index
+pub mod Limits
+pub mod NameTaken
+pub mod Named
+pub mod Numbers
+pub mod Relations
+pub mod Rollups
+pub mod Steps
+pub mod UnknownName
