@@ -1,13 +1,18 @@
 -- An index of a list's names, item by item.
-use Rattle.std.proofs.Common.{◌≡◌, ℕ, ◌+◌, ◌<◌, ◌≤◌, List, [], ◌∷◌, ◌++◌, length, map, take, get_or, Option, Some, None, cond, refl, sym, ap, ◌∙◌, arith, zero-add, subst}
+use Rattle.std.proofs.Common.{◌≡◌, ℕ, ◌+◌, ◌<◌, ◌≤◌, List, [], ◌∷◌, ◌++◌, length, map, take, get_or, Option, Some, None, cond, refl, sym, ap, ◌∙◌, arith, zero-add, subst, ◌*◌, zero, suc, append_assoc, slice_get, flat_map}
 use Rattle.std.specs.Prelude.{◌&&◌}
 use Rattle.std.specs.Option.{option_or}
-use Rattle.std.proofs.lemmas.List.{map-append, take_more, take_all, length-map, length-take-le}
+use Rattle.std.proofs.lemmas.List.{map-append, take_more, take_all, length-map, length-take-le, length_push, flat_map_more}
+use Rattle.dv_meta.specs.declared.draft.DraftForm.{DraftForm}
+use Rattle.dv_meta.specs.declared.draft.DraftForm.TheVariants.{Plain, Lookup, Rollup}
+use Rattle.dv_meta.specs.declared.draft.DraftTable.{DraftTable}
+use Rattle.dv_meta.specs.declared.index.Columns.{Columns}
 use Rattle.dv_meta.specs.declared.draft.DraftRelationship.{DraftRelationship}
 use Rattle.dv_meta.specs.declared.names.Lookups.{Lookups}
 use Rattle.dv_meta.specs.declared.names.Numbers.{Numbers}
 use Rattle.dv_meta.specs.First.{first_from}
-use Rattle.dv_meta.specs.Index.{Finds}
+use Rattle.dv_meta.specs.Columns.{names_by}
+use Rattle.dv_meta.specs.Index.{Finds, FindsColumns, FindsEach}
 use Rattle.dv_meta.specs.Named.{lookup_of, has_lookup}
 use Rattle.dv_meta.specs.Names.{Name, same_name, place_of}
 use Rattle.dv_meta.specs.Numbers.{number_in, lookup_in}
@@ -89,3 +94,82 @@ FindsLookups-nil lookups none t q = none t q
 -- all relationships
 pub FindsLookups-all : (rs : List DraftRelationship) (i : ℕ) (lookups : Lookups) → length rs ≤ i → FindsLookups lookups (take i rs) → FindsLookups lookups rs
 FindsLookups-all rs i lookups past found = let P : List DraftRelationship → Type 0 = FindsLookups lookups in subst P (take_all i rs past) found
+
+-- a column that takes one name
+pub Finds-column : (ns : List Name) (old new : Numbers) (names : List Name) (name copy : Name) (number : ℕ) → ns ≡ name ∷ [] → copy ≡ name
+    → length names ≡ number → Finds old names → Adds old new copy number → Finds new (names ++ ns)
+Finds-column ns old new names name copy number e same count found added =
+    let P : List Name → Type 0 = λ ms. Finds new (names ++ ms) in
+    let Q : Name → Type 0 = λ n. Finds new (names ++ n ∷ []) in
+    subst P (sym e) (subst Q same (Finds-push_at old new names copy number count found added))
+
+-- a rollup, which takes three
+pub Finds-rollup : (ns : List Name) (old n₁ n₂ new : Numbers) (names : List Name) (a b c : Name) (number : ℕ) → ns ≡ a ∷ b ∷ c ∷ []
+    → length names ≡ number → Finds old names → Adds old n₁ a number → Adds n₁ n₂ b (number + 1) → Adds n₂ new c (number + 2) → Finds new (names ++ ns)
+Finds-rollup ns old n₁ n₂ new names a b c number e count found one two three =
+    let P : List Name → Type 0 = Finds new in
+    let f₁ = Finds-push_at old n₁ names a number count found one in
+    let f₂ = Finds-push_at n₁ n₂ (names ++ a ∷ []) b (number + 1) (length_push names a ∙ ap (λ n. n + 1) count) f₁ two in
+    let e₂ : number + 1 + 1 ≡ number + 2 = omega arith in
+    let f₃ = Finds-push_at n₂ new ((names ++ a ∷ []) ++ b ∷ []) c (number + 2) (length_push (names ++ a ∷ []) b ∙ ap (λ n. n + 1) (length_push names a ∙ ap (λ n. n + 1) count) ∙ e₂) f₂ three in
+    subst P (append_assoc (names ++ a ∷ []) (b ∷ []) (c ∷ []) ∙ append_assoc names (a ∷ []) (b ∷ c ∷ []) ∙ ap (λ ms. names ++ ms) (sym e)) f₃
+
+-- a column takes at most three names
+pub length-names_by : (form : DraftForm) (name : Name) → length (names_by form name) ≤ 3
+length-names_by (Plain kind) name = omega arith
+length-names_by Lookup name = omega arith
+length-names_by (Rollup rollup) name = omega arith
+
+-- the names of one column more
+pub flat_map-take-more : {X A : Type 0} (f : X → List A) (names : List A) (xs : List X) (i : ℕ) (x : X) → i < length xs → x ≡ get_or xs i x
+    → (names ++ flat_map f (take i xs)) ++ f x ≡ names ++ flat_map f (take (i + 1) xs)
+flat_map-take-more f names xs i x within read =
+    flat_map_more f names (take i xs) x ∙ ap (λ ys. names ++ flat_map f ys) (sym (take_more xs i x within ∙ ap (λ y. take i xs ++ y ∷ []) (sym read)))
+
+-- one table more
+pub FindsEach-push : (cs : List Columns) (ts : List DraftTable) (c : Columns) (t : DraftTable) → FindsEach cs ts → FindsColumns c t → FindsEach (cs ++ c ∷ []) (ts ++ t ∷ [])
+unfolding FindsEach
+FindsEach-push [] [] c t each here = (here, tt)
+FindsEach-push [] (t' ∷ ts) c t each here = absurd each
+FindsEach-push (c' ∷ cs) [] c t each here = absurd each
+FindsEach-push (c' ∷ cs) (t' ∷ ts) c t each here = (each.0, FindsEach-push cs ts c t each.1 here)
+
+pub FindsEach-more : (cs : List Columns) (ts : List DraftTable) (i : ℕ) (c : Columns) (t : DraftTable) → i < length ts → t ≡ get_or ts i t → FindsEach cs (take i ts) → FindsColumns c t → FindsEach (cs ++ c ∷ []) (take (i + 1) ts)
+FindsEach-more cs ts i c t within read each here =
+    let P : List DraftTable → Type 0 = FindsEach (cs ++ c ∷ []) in
+    subst P (sym (take_more ts i t within ∙ ap (λ y. take i ts ++ y ∷ []) (sym read))) (FindsEach-push cs (take i ts) c t each here)
+
+pub FindsEach-nil : FindsEach [] []
+unfolding FindsEach
+FindsEach-nil = tt
+
+pub FindsEach-all : (cs : List Columns) (ts : List DraftTable) (i : ℕ) → length ts ≤ i → FindsEach cs (take i ts) → FindsEach cs ts
+FindsEach-all cs ts i past each = let P : List DraftTable → Type 0 = FindsEach cs in subst P (take_all i ts past) each
+
+-- what a list has where it was read
+pub slice_get-read : {X : Type 0} (xs : List X) (i : ℕ) (x : X) → i < length xs → x ≡ get_or xs i x → slice_get xs i ≡ Some x
+slice_get-read [] i x within read = absurd (omega arith)
+slice_get-read (y ∷ ys) zero x within read = ap Some (sym read)
+slice_get-read (y ∷ ys) (suc i) x within read = slice_get-read ys i x (omega arith) read
+
+-- the columns beside a table
+pub FindsEach-at : (cs : List Columns) (ts : List DraftTable) (i : ℕ) (c : Columns) (t : DraftTable) → FindsEach cs ts → slice_get cs i ≡ Some c → slice_get ts i ≡ Some t → FindsColumns c t
+unfolding FindsEach
+FindsEach-at [] ts i c t each e e' = absurd (cc)
+FindsEach-at (c' ∷ cs) [] i c t each e e' = absurd each
+FindsEach-at (c' ∷ cs) (t' ∷ ts) zero c t each e e' =
+    let P : Columns → Type 0 = λ x. FindsColumns x t in
+    let Q : DraftTable → Type 0 = FindsColumns c' in
+    let same_columns : c' ≡ c = cc in
+    let same_table : t' ≡ t = cc in
+    subst P same_columns (subst Q same_table each.0)
+FindsEach-at (c' ∷ cs) (t' ∷ ts) (suc i) c t each e e' = FindsEach-at cs ts i c t each.1 e e'
+
+-- there are as many of one as of the other
+pub FindsEach-none : (cs : List Columns) (ts : List DraftTable) (i : ℕ) → FindsEach cs ts → slice_get cs i ≡ None → slice_get ts i ≡ None
+unfolding FindsEach
+FindsEach-none [] [] i each e = refl
+FindsEach-none [] (t ∷ ts) i each e = absurd each
+FindsEach-none (c ∷ cs) [] i each e = refl
+FindsEach-none (c ∷ cs) (t ∷ ts) zero each e = absurd (cc)
+FindsEach-none (c ∷ cs) (t ∷ ts) (suc i) each e = FindsEach-none cs ts i each.1 e

@@ -1,5 +1,5 @@
 -- What an index of a definition tells: for each name, its first place.
-use Rattle.std.specs.Prelude.{ℕ, ◌≡◌, List, Some, length, slice_get}
+use Rattle.std.specs.Prelude.{ℕ, ◌≡◌, List, [], ◌∷◌}
 use Rattle.dv_meta.specs.declared.draft.Draft.{Draft}
 use Rattle.dv_meta.specs.declared.draft.DraftTable.{DraftTable}
 use Rattle.dv_meta.specs.declared.index.Columns.{Columns}
@@ -19,14 +19,16 @@ pub record FindsColumns (columns : Columns) (table : DraftTable) : Type 0 where
   pub all : Finds columns.all (column_names table)
   pub own : Finds columns.own (own_names table)
 
--- the tables' columns are found
-abbrev pub FindsEach : List Columns → List DraftTable → Type 0
-FindsEach columns tables = (i : ℕ) (c : Columns) (t : DraftTable) → slice_get columns i ≡ Some c → slice_get tables i ≡ Some t → FindsColumns c t
+-- the columns of each table are found
+unfoldable pub FindsEach : List Columns → List DraftTable → Type 0
+FindsEach [] [] = Unit {0}
+FindsEach [] (t ∷ ts) = ⊥
+FindsEach (c ∷ cs) [] = ⊥
+FindsEach (c ∷ cs) (t ∷ ts) = FindsColumns c t × FindsEach cs ts
 
 -- each name of a definition is found
 pub record IsIndexOf (draft : Draft) (index : Index) : Type 0 where
   pub tables : Finds index.tables (table_names draft.tables)
   pub relationships : Finds index.relationships (relationship_names draft.relationships)
   pub lookups : (table name : Name) → lookup_in index.lookups table name ≡ lookup_number draft table name
-  pub as_many : length index.columns.items ≡ length draft.tables
   pub columns : FindsEach index.columns.items draft.tables

@@ -1,6 +1,6 @@
 -- What relationships may not do: empty a required column; hand on ownership or shares where a table has no owners;
 -- put a table under a second parental relationship.
-use Rattle.std.specs.Prelude.{ℕ, Bool, true, false, not, ◌&&◌, ◌||◌, List, take, Option, Some, None, if◌then◌else◌}
+use Rattle.std.specs.Prelude.{ℕ, Bool, true, false, not, ◌&&◌, ◌||◌, List, take, Option, Some, None, if◌then◌else◌, option_map, position}
 use Rattle.std.specs.List.{list_any}
 use Rattle.std.specs.Option.{option_map_or}
 use Rattle.dv_meta.specs.declared.draft.Draft.{Draft}
@@ -44,7 +44,7 @@ unfoldable pub is_second : Draft → ℕ → DraftRelationship → Bool
 is_second draft k r = is_parental r && list_any (λ earlier. is_parental earlier && same_name r.child earlier.child) (take k draft.relationships)
 
 unfoldable pub bad_cascade : Draft → Option Place
-bad_cascade draft = first (λ k r. if empties_required draft r then Some (at.Relationship k) else None) draft.relationships
+bad_cascade draft = option_map at.Relationship (position (empties_required draft) draft.relationships)
 
 unfoldable pub ownership_clash : Draft → Option Place
 ownership_clash draft = first (λ k r. if clashes draft r then Some (at.Relationship k) else None) draft.relationships

@@ -1,6 +1,6 @@
-ghost use Rattle.std.specs.Prelude.{◌≡◌, ◌++◌, ◌+◌, ◌<◌, ◌≤◌, ℕ, List, length, map, slice_get, Some, IfOk, OnOk};
+ghost use Rattle.std.specs.Prelude.{◌≡◌, ◌++◌, ◌+◌, ◌<◌, ◌≤◌, ℕ, List, length, map, flat_map, slice_get, Some, IfOk, OnOk};
 ghost use Rattle.dv_meta.specs.declared.draft.DraftTable.{DraftTable};
-ghost use Rattle.dv_meta.specs.Columns.{names_of, system_names, column_names, own_names};
+ghost use Rattle.dv_meta.specs.Columns.{names_of, column_names};
 ghost use Rattle.dv_meta.specs.Index.{Finds, FindsColumns, FindsEach, IsIndexOf};
 ghost use Rattle.dv_meta.specs.Limits.{IsWithinLimits};
 ghost use Rattle.dv_meta.specs.Named.{table_names, relationship_names, lookup_of};
@@ -11,6 +11,7 @@ use crate::draft::{Draft, DraftColumn, DraftForm, DraftRelationship, DraftTable}
 use crate::names::{Lookups, Numbers};
 use crate::spelling::with_ending;
 use crate::system::system_columns;
+use crate::table::Column;
 use dv_value::Text;
 use std::alloc::{AllocError, Global};
 
@@ -83,8 +84,7 @@ fn lookup_numbers(alloc: Global, relationships: &[DraftRelationship]) -> Result<
 
 fn columns_of_each(alloc: Global, tables: &[DraftTable]) -> Result<Vec<Columns>, AllocError>
     requires { (i : ℕ) (table : DraftTable) → slice_get tables.now i ≡ Some table → length table.columns ≤ 60 }
-    ensures as_many { IfOk result (λ columns. length columns.items ≡ length tables.now) }
-    ensures each { IfOk result (λ columns. FindsEach columns.items tables.now) }
+    ensures { IfOk result (λ columns. FindsEach columns.items tables.now) }
 {
     let mut columns = Vec::new(alloc);
     for table in tables {
@@ -117,24 +117,38 @@ fn column_numbers(alloc: Global, table: &DraftTable) -> Result<Numbers, AllocErr
     requires { length table.now.columns ≤ 60 }
     ensures { IfOk result (λ numbers. Finds numbers (column_names table.now)) }
 {
-    let (mut numbers, mut next) = system_numbers(alloc, table.user_owned)?;
-    for column in table.columns.as_slice() {
-        next = number_column(alloc, &mut numbers, column, next)?;
+    let system = system_columns(alloc, table.user_owned)?;
+    let mut numbers = kept_numbers(alloc, system.as_slice())?;
+    number_columns(alloc, &mut numbers, table.columns.as_slice(), system.len())?;
+    Ok(numbers)
+}
+
+fn kept_numbers(alloc: Global, columns: &[Column]) -> Result<Numbers, AllocError>
+    ensures { IfOk result (λ numbers. Finds numbers (map (λ column. column.name) columns.now)) }
+{
+    let mut numbers = Numbers::new(alloc);
+    for (j, column) in columns.iter().enumerate() {
+        numbers.add(column.name.copy(alloc)?, j)?;
     }
     Ok(numbers)
 }
 
-// The system columns' numbers, and the next one.
-fn system_numbers(alloc: Global, user_owned: bool) -> Result<(Numbers, usize), AllocError>
-    ensures finds { IfOk result (λ found. Finds found.0 (system_names user_owned)) }
-    ensures next { IfOk result (λ found. found.1 ≡ length (system_names user_owned)) }
+// Numbers the names of columns from a number on.
+fn number_columns(
+    alloc: Global,
+    numbers: &mut Numbers,
+    columns: &[DraftColumn],
+    first: usize,
+) -> Result<(), AllocError>
+    requires few { length columns.now ≤ 60 }
+    requires first { first ≤ 8 }
+    ensures { OnOk result ((names : List Name) → length names ≡ first → Finds numbers.old names → Finds numbers.new (names ++ flat_map names_of columns.now)) }
 {
-    let columns = system_columns(alloc, user_owned)?;
-    let mut numbers = Numbers::new(alloc);
-    for (j, column) in columns.as_slice().iter().enumerate() {
-        numbers.add(column.name.copy(alloc)?, j)?;
+    let mut next = first;
+    for column in columns {
+        next = number_column(alloc, numbers, column, next)?;
     }
-    Ok((numbers, columns.len()))
+    Ok(())
 }
 
 // Numbers the names of a column from a number on, and tells the next one.

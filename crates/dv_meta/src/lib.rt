@@ -8,10 +8,12 @@
 mod draft;
 mod fault;
 mod index;
+mod lookup;
 mod names;
 mod opening;
 mod place;
 mod registration;
+mod relations;
 mod relationship;
 mod spelling;
 mod system;

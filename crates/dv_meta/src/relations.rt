@@ -1,0 +1,64 @@
+ghost use Rattle.std.specs.Prelude.{◌≡◌, position};
+ghost use Rattle.dv_meta.specs.Index.{IsIndexOf};
+ghost use Rattle.dv_meta.specs.Relations.{empties, hands_on, empties_required, is_parental, has_no_owners, clashes, is_second, bad_cascade, ownership_clash, second_parent};
+
+use crate::draft::{Draft, DraftRelationship};
+use crate::index::Index;
+use crate::lookup::{column_named, table_named};
+use crate::place::Place;
+use crate::relationship::Cascade;
+use dv_value::Text;
+
+fn empties(cascade: Cascade) -> bool
+    ensures { result ≡ empties cascade }
+{
+    match cascade {
+        Cascade::RemoveLink => true,
+        _ => false,
+    }
+}
+
+fn hands_on(cascade: Cascade) -> bool
+    ensures { result ≡ hands_on cascade }
+{
+    match cascade {
+        Cascade::NoCascade => false,
+        _ => true,
+    }
+}
+
+#[tactic(auto, unfolding(crate::specs::Relations::empties_required))]
+fn empties_required(draft: &Draft, index: &Index, r: &DraftRelationship) -> bool
+    requires { IsIndexOf draft.now index.now }
+    ensures { result ≡ empties_required draft.now r.now }
+{
+    if !empties(r.delete) {
+        return false;
+    }
+    match column_named(draft, index, &r.child, &r.column) {
+        Some(column) => column.required,
+        None => false,
+    }
+}
+
+/// The first relationship that empties a required column when its parent goes.
+#[tactic(auto, unfolding(crate::specs::Relations::bad_cascade))]
+pub(crate) fn bad_cascade(draft: &Draft, index: &Index) -> Option<Place>
+    requires { IsIndexOf draft.now index.now }
+    ensures { result ≡ bad_cascade draft.now }
+{
+    match first_emptying(draft, index) {
+        Some(k) => Some(Place::Relationship(k)),
+        None => None,
+    }
+}
+
+fn first_emptying(draft: &Draft, index: &Index) -> Option<usize>
+    requires { IsIndexOf draft.now index.now }
+    ensures { result ≡ position (empties_required draft.now) draft.now.relationships }
+{
+    let relationships = draft.relationships.as_slice();
+    relationships
+        .iter()
+        .position(|r| empties_required(draft, index, r))
+}
