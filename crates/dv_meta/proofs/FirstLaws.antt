@@ -1,7 +1,7 @@
 -- What is found first in a list, item by item.
-use Rattle.std.proofs.Common.{◌≡◌, ℕ, ◌+◌, ◌<◌, ◌≤◌, List, [], ◌∷◌, ◌++◌, length, take, drop, get_or, Option, Some, None, refl, sym, ap, ◌∙◌, arith, add-zero}
+use Rattle.std.proofs.Common.{◌≡◌, ℕ, ◌+◌, ◌<◌, ◌≤◌, List, [], ◌∷◌, ◌++◌, length, take, drop, get_or, Option, Some, None, refl, sym, ap, ◌∙◌, arith, add-zero, zero-add}
 use Rattle.std.specs.Option.{option_or}
-use Rattle.std.proofs.lemmas.List.{drop_more, drop_all}
+use Rattle.std.proofs.lemmas.List.{drop_more, drop_all, take_more, length-take-le}
 use Rattle.dv_meta.specs.First.{first_from}
 
 pub option_or_assoc : {A : Type 0} (a b c : Option A) → option_or a (option_or b c) ≡ option_or (option_or a b) c
@@ -41,3 +41,10 @@ first_from-found found xs i x y within read some =
 pub first_from-end : {A B : Type 0} (found : ℕ → A → Option B) (xs : List A) (i : ℕ) → length xs ≤ i → first_from found i (drop i xs) ≡ None
 unfolding first_from
 first_from-end found xs i past = ap (first_from found i) (drop_all i xs past)
+
+-- the items so far, and one more
+pub first_from-take-more : {A B : Type 0} (found : ℕ → A → Option B) (xs : List A) (i : ℕ) (x : A) → i < length xs → x ≡ get_or xs i x
+    → first_from found 0 (take (i + 1) xs) ≡ option_or (first_from found 0 (take i xs)) (found i x)
+first_from-take-more found xs i x within read =
+    ap (first_from found 0) (take_more xs i x within ∙ ap (λ y. take i xs ++ y ∷ []) (sym read)) ∙ first_from-push found 0 (take i xs) x
+    ∙ ap (λ k. option_or (first_from found 0 (take i xs)) (found k x)) (zero-add (length (take i xs)) ∙ length-take-le i xs (omega arith))

@@ -1,7 +1,7 @@
 -- A name is taken where two tables, two relationships or two columns of one table have it, system columns and the
 -- companions of rollups too; and a column is taken where two relationships have it. The later one is at fault.
-use Rattle.std.specs.Prelude.{ℕ, Bool, false, ◌||◌, List, Option, Some, None, if◌then◌else◌, nat_lt}
-use Rattle.std.specs.List.{list_any}
+use Rattle.std.specs.Prelude.{ℕ, Bool, false, ◌||◌, List, Option, Some, None, if◌then◌else◌, nat_lt, option_map, position}
+use Rattle.std.specs.List.{list_any, enumerate_from}
 use Rattle.std.specs.Option.{option_or, option_map_or}
 use Rattle.dv_meta.specs.declared.draft.Draft.{Draft}
 use Rattle.dv_meta.specs.declared.draft.DraftColumn.{DraftColumn}
@@ -19,23 +19,23 @@ unfoldable pub takes_name : DraftTable → ℕ → DraftColumn → Bool
 takes_name table j column = list_any (stands_before (column_names table) (column_number table j)) (names_of column)
 
 -- the first column of a table that takes a name
-unfoldable pub taken_in : ℕ → DraftTable → Option Place
-taken_in i table = first (λ j column. if takes_name table j column then Some (Column i j) else None) table.columns
+unfoldable pub taken_in : DraftTable → Option ℕ
+taken_in table = first (λ j column. if takes_name table j column then Some j else None) table.columns
 
 -- the table's name is taken, or else one of its columns takes a name
 unfoldable pub taken_at_table : Draft → ℕ → DraftTable → Option Place
-taken_at_table draft i table = if stands_before (table_names draft.tables) i table.name then Some (Table i) else taken_in i table
+taken_at_table draft i table = if stands_before (table_names draft.tables) i table.name then Some (Table i) else option_map (λ j. Column i j) (taken_in table)
 
 -- whether the relationship's name is that of an earlier one, or its column is
-unfoldable pub takes_column : Draft → ℕ → DraftRelationship → Bool
-takes_column draft k r = stands_before (relationship_names draft.relationships) k r.name || option_map_or (λ j. nat_lt j k) (lookup_number draft r.child r.column) false
+unfoldable pub takes_column : Draft → ℕ × DraftRelationship → Bool
+takes_column draft at_k = stands_before (relationship_names draft.relationships) at_k.0 at_k.1.name || option_map_or (λ j. nat_lt j at_k.0) (lookup_number draft at_k.1.child at_k.1.column) false
 
--- the first name that is taken
 unfoldable pub taken_in_tables : Draft → Option Place
 taken_in_tables draft = first (taken_at_table draft) draft.tables
 
 unfoldable pub taken_in_relationships : Draft → Option Place
-taken_in_relationships draft = first (λ k r. if takes_column draft k r then Some (Relationship k) else None) draft.relationships
+taken_in_relationships draft = option_map Relationship (position (takes_column draft) (enumerate_from 0 draft.relationships))
 
+-- the first place that takes a name
 unfoldable pub name_taken : Draft → Option Place
 name_taken draft = option_or (taken_in_tables draft) (taken_in_relationships draft)

@@ -1,7 +1,7 @@
 -- What relationships may not do: empty a required column; hand on ownership or shares where a table has no owners;
 -- put a table under a second parental relationship.
-use Rattle.std.specs.Prelude.{ℕ, Bool, true, false, not, ◌&&◌, ◌||◌, List, take, Option, Some, None, if◌then◌else◌, option_map, position}
-use Rattle.std.specs.List.{list_any}
+use Rattle.std.specs.Prelude.{ℕ, Bool, true, false, not, ◌&&◌, ◌||◌, List, Option, Some, None, if◌then◌else◌, option_map, position, nat_lt}
+use Rattle.std.specs.List.{enumerate_from}
 use Rattle.std.specs.Option.{option_map_or}
 use Rattle.dv_meta.specs.declared.draft.Draft.{Draft}
 use Rattle.dv_meta.specs.declared.draft.DraftRelationship.{DraftRelationship}
@@ -39,15 +39,22 @@ has_no_owners draft name = option_map_or (λ table. not table.user_owned) (table
 unfoldable pub clashes : Draft → DraftRelationship → Bool
 clashes draft r = is_parental r && (has_no_owners draft r.parent || has_no_owners draft r.child)
 
--- whether the relationship puts its child under a parent, and an earlier one did so
-unfoldable pub is_second : Draft → ℕ → DraftRelationship → Bool
-is_second draft k r = is_parental r && list_any (λ earlier. is_parental earlier && same_name r.child earlier.child) (take k draft.relationships)
+-- the number of the first parental relationship of a child
+unfoldable pub parental_of : List DraftRelationship → Name → Option ℕ
+parental_of relationships child = first (λ k r. if is_parental r && same_name child r.child then Some k else None) relationships
 
+-- whether the relationship puts its child under a parent, and an earlier one did so
+unfoldable pub is_second : Draft → ℕ × DraftRelationship → Bool
+is_second draft at_k = is_parental at_k.1 && option_map_or (λ j. nat_lt j at_k.0) (parental_of draft.relationships at_k.1.child) false
+
+-- the first relationship that would empty a required column
 unfoldable pub bad_cascade : Draft → Option Place
 bad_cascade draft = option_map at.Relationship (position (empties_required draft) draft.relationships)
 
+-- the first relationship that hands ownership or shares on where there are none
 unfoldable pub ownership_clash : Draft → Option Place
-ownership_clash draft = first (λ k r. if clashes draft r then Some (at.Relationship k) else None) draft.relationships
+ownership_clash draft = option_map at.Relationship (position (clashes draft) draft.relationships)
 
+-- the first relationship that is its child's second parental one
 unfoldable pub second_parent : Draft → Option Place
-second_parent draft = first (λ k r. if is_second draft k r then Some (at.Relationship k) else None) draft.relationships
+second_parent draft = option_map at.Relationship (position (is_second draft) (enumerate_from 0 draft.relationships))

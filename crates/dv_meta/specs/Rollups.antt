@@ -1,6 +1,6 @@
 -- A rollup goes over a relationship whose parent is its own table, takes a whole or an amount column of the child
 -- that the definition lists and that is no rollup (a count takes none), and is never required.
-use Rattle.std.specs.Prelude.{ℕ, Bool, true, false, not, ◌&&◌, ◌||◌, List, Option, Some, None, if◌then◌else◌, is_none, option_and_then}
+use Rattle.std.specs.Prelude.{ℕ, Bool, true, false, not, ◌&&◌, ◌||◌, List, Option, Some, None, is_none, option_map, position}
 use Rattle.std.specs.Option.{option_map_or}
 use Rattle.dv_value.specs.declared.kind.Kind.{Kind}
 use Rattle.dv_value.specs.declared.kind.Kind.TheVariants.{Whole, Amount}
@@ -58,8 +58,10 @@ form_bad draft table required (Rollup rollup) = required || not (goes_over draft
 unfoldable pub rollup_bad : Draft → DraftTable → DraftColumn → Bool
 rollup_bad draft table column = form_bad draft table.name column.required column.form
 
+-- the first such column of a table
 unfoldable pub bad_in : Draft → ℕ → DraftTable → Option Place
-bad_in draft i table = first (λ j column. if rollup_bad draft table column then Some (at.Column i j) else None) table.columns
+bad_in draft i table = option_map (λ j. at.Column i j) (position (rollup_bad draft table) table.columns)
 
+-- the first such column
 unfoldable pub bad_rollup : Draft → Option Place
 bad_rollup draft = first (bad_in draft) draft.tables

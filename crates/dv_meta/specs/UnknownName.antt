@@ -1,6 +1,6 @@
 -- A name is unknown where it names a table, a column or a relationship that isn't there; where a relationship's
 -- column isn't a lookup of its child; and where a lookup has no relationship.
-use Rattle.std.specs.Prelude.{ℕ, Bool, true, false, not, ◌||◌, List, Option, Some, None, if◌then◌else◌, is_none, option_and_then}
+use Rattle.std.specs.Prelude.{ℕ, Bool, true, false, not, ◌||◌, List, Option, Some, None, is_none, option_map, option_and_then, position}
 use Rattle.std.specs.List.{list_any}
 use Rattle.std.specs.Option.{option_or, option_map_or}
 use Rattle.dv_meta.specs.declared.draft.Draft.{Draft}
@@ -78,19 +78,19 @@ role_unknown draft role = list_any (λ entry. privilege_unknown draft entry.tabl
 
 -- the first column of a table that names what isn't there
 unfoldable pub unknown_in : Draft → ℕ → DraftTable → Option Place
-unknown_in draft i table = first (λ j column. if column_unknown draft table column then Some (at.Column i j) else None) table.columns
+unknown_in draft i table = option_map (λ j. at.Column i j) (position (column_unknown draft table) table.columns)
 
 unfoldable pub unknown_in_tables : Draft → Option Place
 unknown_in_tables draft = first (unknown_in draft) draft.tables
 
 unfoldable pub unknown_in_relationships : Draft → Option Place
-unknown_in_relationships draft = first (λ k r. if relationship_unknown draft r then Some (at.Relationship k) else None) draft.relationships
+unknown_in_relationships draft = option_map at.Relationship (position (relationship_unknown draft) draft.relationships)
 
 unfoldable pub unknown_in_steps : Draft → Option Place
-unknown_in_steps draft = first (λ k g. if registration_unknown draft g then Some (at.Registration k) else None) draft.steps
+unknown_in_steps draft = option_map at.Registration (position (registration_unknown draft) draft.steps)
 
 unfoldable pub unknown_in_roles : Draft → Option Place
-unknown_in_roles draft = first (λ k role. if role_unknown draft role then Some (at.Role k) else None) draft.opening.roles
+unknown_in_roles draft = option_map at.Role (position (role_unknown draft) draft.opening.roles)
 
 -- the first place that names what isn't there
 unfoldable pub unknown_name : Draft → Option Place

@@ -15,9 +15,12 @@ mod place;
 mod registration;
 mod relations;
 mod relationship;
+mod rollups;
 mod spelling;
+mod steps;
 mod system;
 mod table;
+mod unknown;
 
 pub use fault::{DefFault, DefKind};
 pub use opening::{Action, Entry, Opening, OpeningTeam, OpeningUnit, OpeningUser, Role};
