@@ -1,5 +1,5 @@
 -- What is found first in a list, item by item.
-use Rattle.std.proofs.Common.{◌≡◌, ℕ, ◌+◌, ◌<◌, ◌≤◌, List, [], ◌∷◌, ◌++◌, length, take, drop, get_or, Option, Some, None, refl, sym, ap, ◌∙◌, arith, add-zero, zero-add}
+use Rattle.std.proofs.Common.{◌≡◌, ℕ, ◌+◌, ◌<◌, ◌≤◌, List, [], ◌∷◌, ◌++◌, length, take, drop, get_or, Option, Some, None, refl, sym, ap, ◌∙◌, arith, add-zero, zero-add, zero, suc, slice_get}
 use Rattle.std.specs.Option.{option_or}
 use Rattle.std.proofs.lemmas.List.{drop_more, drop_all, take_more, length-take-le}
 use Rattle.dv_meta.specs.First.{first_from}
@@ -48,3 +48,19 @@ pub first_from-take-more : {A B : Type 0} (found : ℕ → A → Option B) (xs :
 first_from-take-more found xs i x within read =
     ap (first_from found 0) (take_more xs i x within ∙ ap (λ y. take i xs ++ y ∷ []) (sym read)) ∙ first_from-push found 0 (take i xs) x
     ∙ ap (λ k. option_or (first_from found 0 (take i xs)) (found k x)) (zero-add (length (take i xs)) ∙ length-take-le i xs (omega arith))
+
+-- a list has an item at each place
+pub item_at : {A : Type 0} (xs : List A) (i : ℕ) → i < length xs → (x : A) × ((slice_get xs i ≡ Some x) × (x ≡ get_or xs i x))
+item_at [] i within = absurd (omega arith)
+item_at (y ∷ ys) zero within = (y, (refl, refl))
+item_at (y ∷ ys) (suc i) within = item_at ys i (omega arith)
+
+-- nothing is found at a place
+pub first_from-more_at : {A B : Type 0} (found : ℕ → A → Option B) (xs : List A) (i : ℕ) → i < length xs → ((x : A) → slice_get xs i ≡ Some x → found i x ≡ None)
+    → first_from found i (drop i xs) ≡ first_from found (i + 1) (drop (i + 1) xs)
+first_from-more_at found xs i within none = let item = item_at xs i within in first_from-more found xs i item.0 within item.1.1 (none item.0 item.1.0)
+
+-- something is found at a place
+pub first_from-found_at : {A B : Type 0} (found : ℕ → A → Option B) (xs : List A) (i : ℕ) (y : B) → i < length xs → ((x : A) → slice_get xs i ≡ Some x → found i x ≡ Some y)
+    → first_from found i (drop i xs) ≡ Some y
+first_from-found_at found xs i y within some = let item = item_at xs i within in first_from-found found xs i item.0 y within item.1.1 (some item.0 item.1.0)

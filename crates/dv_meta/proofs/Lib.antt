@@ -1,3 +1,4 @@
 pub mod FirstLaws
 pub mod IndexLaws
 pub mod NumbersLaws
+pub mod TakenLaws

@@ -20,6 +20,7 @@ mod spelling;
 mod steps;
 mod system;
 mod table;
+mod taken;
 mod unknown;
 
 pub use fault::{DefFault, DefKind};
