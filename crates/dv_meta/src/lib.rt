@@ -16,6 +16,7 @@ mod registration;
 mod relations;
 mod relationship;
 mod rollups;
+mod seats;
 mod spelling;
 mod steps;
 mod system;
