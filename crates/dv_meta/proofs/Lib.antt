@@ -1,4 +1,5 @@
 pub mod FirstLaws
 pub mod IndexLaws
 pub mod NumbersLaws
+pub mod SeatLaws
 pub mod TakenLaws
