@@ -86,10 +86,14 @@ member_count team = length (filter (λ at_j. not (id_before (map (λ user. user.
 unfoldable pub overfull : Opening → ℕ → Bool
 overfull o k = nat_lt 100000 (sum_by member_count (take (k + 1) o.teams))
 
-unfoldable pub team_refused : Opening → ℕ → OpeningTeam → Bool
-team_refused o k team = is_some (adding_team (made o (length o.units) (length o.users) k (length o.roles)) team.id.0 team.unit.0)
-    || (member_refused (made o (length o.units) (length o.users) (k + 1) (length o.roles)) (team_seat team.access) team.members
-    || (gift_refused (made o (length o.units) (length o.users) (k + 1) (length o.roles)) (team_seat team.access) team.roles || overfull o k))
+-- whether the team, one of its members or one of its roles is refused
+unfoldable pub team_alone_refused : Opening → ℕ × OpeningTeam → Bool
+team_alone_refused o at_k = is_some (adding_team (made o (length o.units) (length o.users) at_k.0 (length o.roles)) at_k.1.id.0 at_k.1.unit.0)
+    || (member_refused (made o (length o.units) (length o.users) (at_k.0 + 1) (length o.roles)) (team_seat at_k.1.access) at_k.1.members
+    || gift_refused (made o (length o.units) (length o.users) (at_k.0 + 1) (length o.roles)) (team_seat at_k.1.access) at_k.1.roles)
+
+abbrev pub team_refused : Opening → ℕ → OpeningTeam → Bool
+team_refused o k team = team_alone_refused o (k, team) || overfull o k
 
 unfoldable pub refused_unit : Opening → Option Place
 refused_unit o = option_map at.BusinessUnit (position (unit_refused o) (enumerate_from 0 o.units))

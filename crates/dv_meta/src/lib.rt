@@ -23,6 +23,7 @@ mod steps;
 mod system;
 mod table;
 mod taken;
+mod teams;
 mod unknown;
 
 pub use fault::{DefFault, DefKind};
