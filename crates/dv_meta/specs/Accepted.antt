@@ -1,5 +1,5 @@
 -- The accepted definition of a text without a fault: columns are numbered, names are resolved to numbers.
-use Rattle.std.specs.Prelude.{ℕ, Bool, false, List, [], ◌∷◌, ◌++◌, map, flat_map, Option, Some, None, unwrap_or, option_map, option_and_then, pos, negsuc}
+use Rattle.std.specs.Prelude.{◌≡◌, ℕ, Bool, false, List, [], ◌∷◌, ◌++◌, map, flat_map, Option, Some, None, unwrap_or, option_map, option_and_then, pos, negsuc}
 use Rattle.std.specs.Option.{option_map_or}
 use Rattle.dv_value.specs.declared.kind.Kind.{Kind}
 use Rattle.dv_value.specs.declared.kind.Kind.TheVariants.{Whole, Amount, Moment, Ref}
@@ -19,6 +19,7 @@ use Rattle.dv_meta.specs.declared.table.ColumnRole.TheVariants as role
 use Rattle.dv_meta.specs.declared.table.Rollup.{Rollup}
 use Rattle.dv_meta.specs.declared.table.Table.{Table}
 use Rattle.dv_meta.specs.Columns.{system_columns, column_names, state_name, date_name}
+use Rattle.dv_meta.specs.Definitions.{tables_of, relationships_of, steps_of, opening_of}
 use Rattle.dv_meta.specs.Named.{table_names, relationship_names, table_named, own_column, lookup_number}
 use Rattle.dv_meta.specs.Names.{Name, place_of}
 use Rattle.dv_meta.specs.UnknownName.{source_of}
@@ -108,10 +109,8 @@ registration_of draft g = record {
 }
 
 -- the definition of a text without a fault
-unfoldable pub accepted : Draft → Definition
-accepted draft = record {
-  tables = map (table_of draft) draft.tables;
-  relationships = map (relationship_of draft) draft.relationships;
-  steps = map (registration_of draft) draft.steps;
-  opening = draft.opening;
-}
+pub record IsDefinitionOf (draft : Draft) (definition : Definition) : Type 0 where
+  pub tables : tables_of definition ≡ map (table_of draft) draft.tables
+  pub relationships : relationships_of definition ≡ map (relationship_of draft) draft.relationships
+  pub steps : steps_of definition ≡ map (registration_of draft) draft.steps
+  pub opening : opening_of definition ≡ draft.opening

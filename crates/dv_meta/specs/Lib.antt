@@ -1,4 +1,6 @@
+pub mod Accepted
 pub mod Columns
+pub mod Definitions
 pub mod Directory
 pub mod Faults
 pub mod First

@@ -5,12 +5,14 @@
 //! parental relationship, every rollup can be calculated, and the opening directory can be made.
 #![tactic(auto)]
 
+mod definition;
 mod directory;
 mod draft;
 mod fault;
 mod index;
 mod lookup;
 mod names;
+mod numbers;
 mod opening;
 mod place;
 mod registration;
@@ -26,6 +28,7 @@ mod taken;
 mod teams;
 mod unknown;
 
+pub use definition::Definition;
 pub use fault::{DefFault, DefKind};
 pub use opening::{Action, Entry, Opening, OpeningTeam, OpeningUnit, OpeningUser, Role};
 pub use registration::{Message, Registration};
