@@ -1,5 +1,5 @@
 -- What is found first in a list, item by item.
-use Rattle.std.proofs.Common.{◌≡◌, ℕ, ◌+◌, ◌<◌, ◌≤◌, List, [], ◌∷◌, ◌++◌, length, take, drop, get_or, Option, Some, None, refl, sym, ap, ◌∙◌, arith, add-zero, zero-add, zero, suc, slice_get}
+use Rattle.std.proofs.Common.{◌≡◌, ℕ, Bool, true, false, cond, ◌+◌, ◌<◌, ◌≤◌, List, [], ◌∷◌, ◌++◌, length, take, drop, get_or, Option, Some, None, refl, sym, ap, ◌∙◌, arith, add-zero, zero-add, zero, suc, slice_get}
 use Rattle.std.specs.Option.{option_or}
 use Rattle.std.proofs.lemmas.List.{drop_more, drop_all, take_more, length-take-le}
 use Rattle.dv_meta.specs.First.{first_from}
@@ -64,3 +64,13 @@ first_from-more_at found xs i within none = let item = item_at xs i within in fi
 pub first_from-found_at : {A B : Type 0} (found : ℕ → A → Option B) (xs : List A) (i : ℕ) (y : B) → i < length xs → ((x : A) → slice_get xs i ≡ Some x → found i x ≡ Some y)
     → first_from found i (drop i xs) ≡ Some y
 first_from-found_at found xs i y within some = let item = item_at xs i within in first_from-found found xs i item.0 y within item.1.1 (some item.0 item.1.0)
+
+below_at : (b : Bool) (i n k : ℕ) (rest : Option ℕ) → option_or (cond b (Some i) None) rest ≡ Some k → (rest ≡ Some k → k < i + 1 + n) → k < i + suc n
+below_at true i n k rest e more = let same : i ≡ k = cc in omega arith
+below_at false i n k rest e more = let h = more e in omega arith
+
+-- the place of an item is within the list
+pub first_from-below : {A : Type 0} (test : A → Bool) (i : ℕ) (xs : List A) (k : ℕ) → first_from (λ j x. cond (test x) (Some j) None) i xs ≡ Some k → k < i + length xs
+unfolding first_from
+first_from-below test i [] k e = absurd (cc)
+first_from-below test i (x ∷ xs) k e = below_at (test x) i (length xs) k (first_from (λ j y. cond (test y) (Some j) None) (i + 1) xs) e (λ f. first_from-below test (i + 1) xs k f)

@@ -1,5 +1,6 @@
 pub mod FirstLaws
 pub mod IndexLaws
+pub mod NumberLaws
 pub mod NumbersLaws
 pub mod OpeningLaws
 pub mod SeatLaws

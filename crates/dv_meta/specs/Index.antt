@@ -1,5 +1,5 @@
 -- What an index of a definition tells: for each name, its first place.
-use Rattle.std.specs.Prelude.{ℕ, ◌≡◌, List, [], ◌∷◌}
+use Rattle.std.specs.Prelude.{ℕ, ◌≡◌, ◌≤◌, List, [], ◌∷◌, length}
 use Rattle.dv_meta.specs.declared.draft.Draft.{Draft}
 use Rattle.dv_meta.specs.declared.draft.DraftTable.{DraftTable}
 use Rattle.dv_meta.specs.declared.index.Columns.{Columns}
@@ -14,10 +14,11 @@ use Rattle.dv_meta.specs.Numbers.{number_in, lookup_in}
 abbrev pub Finds : Numbers → List Name → Type 0
 Finds numbers names = (name : Name) → number_in numbers name ≡ place_of names name
 
--- the columns of a table are found, all of them and its own
+-- the columns of a table are found, all of them and its own, of which there are at most 60
 pub record FindsColumns (columns : Columns) (table : DraftTable) : Type 0 where
   pub all : Finds columns.all (column_names table)
   pub own : Finds columns.own (own_names table)
+  pub few : length table.columns ≤ 60
 
 -- the columns of each table are found
 unfoldable pub FindsEach : List Columns → List DraftTable → Type 0

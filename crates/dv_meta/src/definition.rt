@@ -1,5 +1,4 @@
-ghost use Rattle.std.specs.Prelude.{◌≡◌, ◌≤◌, length, option_map};
-ghost use Rattle.dv_meta.specs.Definitions.{tables_of, relationships_of, steps_of, opening_of, table_of_bytes};
+ghost use Rattle.std.specs.Prelude.{◌≡◌, ◌≤◌, length};
 
 use crate::opening::Opening;
 use crate::registration::Registration;
@@ -18,6 +17,8 @@ pub struct Definition {
 }
 
 impl Definition {
+    ghost use Rattle.dv_meta.specs.Definitions.{tables_of, relationships_of, steps_of, opening_of, table_of_bytes};
+
     /// The number of the table of a name, if there is one.
     pub fn table(&self, name: &str) -> Option<u16>
         ensures { result ≡ table_of_bytes self.now name.now }

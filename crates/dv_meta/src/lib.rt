@@ -5,6 +5,7 @@
 //! parental relationship, every rollup can be calculated, and the opening directory can be made.
 #![tactic(auto)]
 
+mod building;
 mod definition;
 mod directory;
 mod draft;

@@ -1,4 +1,4 @@
-ghost use Rattle.std.specs.Prelude.{◌≡◌, option_map};
+ghost use Rattle.std.specs.Prelude.{◌≡◌};
 ghost use Rattle.dv_meta.specs.Accepted.{table_number, number_of, number_in_table, source_number};
 ghost use Rattle.dv_meta.specs.Columns.{column_names};
 ghost use Rattle.dv_meta.specs.Index.{FindsColumns, IsIndexOf};
@@ -45,5 +45,45 @@ pub(crate) fn lookup_number(draft: &Draft, index: &Index, table: &Text, name: &T
     match index.lookups.get(table, name) {
         Some(k) => k as u16,
         None => 0,
+    }
+}
+
+impl Found<'_> {
+    /// The number of a column of the table.
+    pub(crate) fn number(&self, name: &Text) -> Option<u16>
+        requires { FindsColumns self.now.columns.now self.now.table.now }
+        ensures { result ≡ place_of (column_names self.now.table.now) name.now }
+    {
+        match self.columns.all.get(name) {
+            Some(k) => Some(k as u16),
+            None => None,
+        }
+    }
+}
+
+/// The number of a column of a table, by the names of both.
+#[tactic(auto, unfolding(crate::specs::Accepted::number_in_table))]
+pub(crate) fn number_in_table(draft: &Draft, index: &Index, table: &Text, name: &Text) -> Option<u16>
+    requires { IsIndexOf draft.now index.now }
+    ensures { result ≡ number_in_table draft.now table.now name.now }
+{
+    match table_named(draft, index, table) {
+        Some(found) => found.number(name),
+        None => None,
+    }
+}
+
+/// The number of the column that a rollup takes.
+#[tactic(auto, unfolding(crate::specs::Accepted::source_number))]
+pub(crate) fn source_number(draft: &Draft, index: &Index, rollup: &DraftRollup) -> Option<u16>
+    requires { IsIndexOf draft.now index.now }
+    ensures { result ≡ source_number draft.now rollup.now }
+{
+    match &rollup.of {
+        Some(name) => match source_of(draft, index, rollup) {
+            Some(found) => found.number(name),
+            None => None,
+        },
+        None => None,
     }
 }
