@@ -173,3 +173,10 @@ FindsEach-none [] (t ∷ ts) i each e = absurd each
 FindsEach-none (c ∷ cs) [] i each e = refl
 FindsEach-none (c ∷ cs) (t ∷ ts) zero each e = absurd (cc)
 FindsEach-none (c ∷ cs) (t ∷ ts) (suc i) each e = FindsEach-none cs ts i each.1 e
+
+-- three items more, one by one
+pub three_more : {X : Type 0} (xs n₁ n₂ n₃ more : List X) (a b c a' b' c' : X) → n₁ ≡ xs ++ a ∷ [] → n₂ ≡ n₁ ++ b ∷ [] → n₃ ≡ n₂ ++ c ∷ []
+    → a ≡ a' → b ≡ b' → c ≡ c' → more ≡ a' ∷ b' ∷ c' ∷ [] → n₃ ≡ xs ++ more
+three_more xs n₁ n₂ n₃ more a b c a' b' c' e₁ e₂ e₃ f g h e =
+    e₃ ∙ ap (λ ys. ys ++ c ∷ []) (e₂ ∙ ap (λ ys. ys ++ b ∷ []) e₁) ∙ append_assoc (xs ++ a ∷ []) (b ∷ []) (c ∷ []) ∙ append_assoc xs (a ∷ []) (b ∷ c ∷ [])
+    ∙ ap (λ x. xs ++ x ∷ b ∷ c ∷ []) f ∙ ap (λ x. xs ++ a' ∷ x ∷ c ∷ []) g ∙ ap (λ x. xs ++ a' ∷ b' ∷ x ∷ []) h ∙ ap (λ ys. xs ++ ys) (sym e)

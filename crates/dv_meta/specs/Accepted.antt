@@ -53,14 +53,19 @@ rollup_of draft rollup = record {
   active = rollup.active;
 }
 
--- a column of the text, and after a rollup its two companions
+-- the column that is calculated
+abbrev pub rollup_column : Draft → Name → Bool → DraftRollup → Column
+rollup_column draft name required rollup = record { name = name; kind = rollup_kind draft rollup; required = required; role = role.Rollup (rollup_of draft rollup) }
+
+-- a column that goes with a rollup
+abbrev pub companion : Name → Kind → Column
+companion name kind = record { name = name; kind = kind; required = false; role = role.Companion }
+
+-- a column of the text, and after a rollup its state and its date
 abbrev pub columns_by : Draft → Name → Name → Bool → DraftForm → List Column
 columns_by draft table name required (form.Plain kind) = record { name = name; kind = kind; required = required; role = role.Plain } ∷ []
 columns_by draft table name required form.Lookup = record { name = name; kind = Ref; required = required; role = role.Lookup (number_of (lookup_number draft table name)) } ∷ []
-columns_by draft table name required (form.Rollup rollup) =
-    record { name = name; kind = rollup_kind draft rollup; required = required; role = role.Rollup (rollup_of draft rollup) }
-    ∷ record { name = state_name name; kind = any_whole; required = false; role = role.Companion }
-    ∷ record { name = date_name name; kind = Moment; required = false; role = role.Companion } ∷ []
+columns_by draft table name required (form.Rollup rollup) = rollup_column draft name required rollup ∷ companion (state_name name) any_whole ∷ companion (date_name name) Moment ∷ []
 
 unfoldable pub columns_of : Draft → DraftTable → DraftColumn → List Column
 columns_of draft table column = columns_by draft table.name column.name column.required column.form

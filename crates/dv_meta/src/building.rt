@@ -1,5 +1,5 @@
-ghost use Rattle.std.specs.Prelude.{◌≡◌, ◌++◌, map, flat_map, IfOk, OnOk};
-ghost use Rattle.dv_meta.specs.Accepted.{any_whole, unlimited, rollup_kind, rollup_of, columns_of, table_of, relationship_of, registration_of};
+ghost use Rattle.std.specs.Prelude.{◌≡◌, ◌++◌, chars, map, flat_map, IfOk, OnOk};
+ghost use Rattle.dv_meta.specs.Accepted.{any_whole, unlimited, rollup_kind, rollup_of, columns_of, rollup_column, companion, table_of, relationship_of, registration_of};
 ghost use Rattle.dv_meta.specs.Index.{IsIndexOf};
 ghost use Rattle.dv_meta.specs.Limits.{IsWithinLimits};
 
@@ -16,7 +16,7 @@ use crate::spelling::with_ending;
 use crate::system::system_columns;
 use crate::table::{Column, ColumnRole, Rollup, Table};
 use crate::unknown::source_of;
-use dv_value::{Kind, Names};
+use dv_value::{Kind, Names, Text};
 use sqlite_items::Items;
 use std::alloc::{AllocError, Global};
 
@@ -178,7 +178,7 @@ pub(crate) fn relationships_of(alloc: Global, draft: &Draft, index: &Index) -> R
     Ok(relationships)
 }
 
-// Adds the columns that a column of the text becomes.
+// The columns that a column of the text becomes are added at the end.
 #[tactic(auto, unfolding(crate::specs::Accepted::columns_of))]
 fn add_columns(
     alloc: Global,
@@ -215,26 +215,38 @@ fn add_columns(
             })
         }
         DraftForm::Rollup(rollup) => {
-            columns.push(Column {
-                name,
-                kind: rollup_kind(draft, index, rollup),
-                required,
-                role: ColumnRole::Rollup(rollup_of(draft, index, rollup)),
-            })?;
-            columns.push(Column {
-                name: with_ending(alloc, &column.name, "_state")?,
-                kind: any_whole(),
-                required: false,
-                role: ColumnRole::Companion,
-            })?;
-            columns.push(Column {
-                name: with_ending(alloc, &column.name, "_date")?,
-                kind: Kind::Moment,
-                required: false,
-                role: ColumnRole::Companion,
-            })
+            let state = companion(alloc, &name, "_state", any_whole())?;
+            let date = companion(alloc, &name, "_date", Kind::Moment)?;
+            columns.push(rollup_column(draft, index, name, required, rollup))?;
+            columns.push(state)?;
+            columns.push(date)?;
+            Ok(())
         }
     }
+}
+
+fn rollup_column(draft: &Draft, index: &Index, name: Text, required: bool, rollup: &DraftRollup) -> Column
+    requires index { IsIndexOf draft.now index.now }
+    requires limits { IsWithinLimits draft.now }
+    ensures { result ≡ rollup_column draft.now name required rollup.now }
+{
+    Column {
+        name,
+        kind: rollup_kind(draft, index, rollup),
+        required,
+        role: ColumnRole::Rollup(rollup_of(draft, index, rollup)),
+    }
+}
+
+fn companion(alloc: Global, name: &Text, ending: &str, kind: Kind) -> Result<Column, AllocError>
+    ensures { IfOk result (λ column. column ≡ companion (name.now ++ chars ending.now) kind) }
+{
+    Ok(Column {
+        name: with_ending(alloc, name, ending)?,
+        kind,
+        required: false,
+        role: ColumnRole::Companion,
+    })
 }
 
 #[tactic(auto, unfolding(crate::specs::Accepted::table_of))]

@@ -19,6 +19,7 @@ mod place;
 mod registration;
 mod relations;
 mod relationship;
+mod resolving;
 mod rollups;
 mod seats;
 mod spelling;

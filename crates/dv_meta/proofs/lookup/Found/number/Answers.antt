@@ -1,6 +1,6 @@
 use Rattle.std.proofs.Common.{sym, ◌∙◌, arith}
 use Rattle.dv_meta.proofs.NumberLaws.{column-below}
-use Rattle.dv_meta.proofs.numbers.Found.number.Goals as goal
+use Rattle.dv_meta.proofs.lookup.Found.number.Goals as goal
 
 pub overflow_cast-result : goal.overflow_cast-result
 overflow_cast-result c =
