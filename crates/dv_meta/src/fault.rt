@@ -1,4 +1,5 @@
 use dv_value::Text;
+use std::alloc::AllocError;
 
 /// What is wrong with a definition. The kinds stand in the order in which they are looked for.
 #[derive(Clone, Copy, Debug, PartialEq, Eq)]
@@ -35,4 +36,15 @@ pub enum DefFault {
     /// The first fault: its kind and its place, a path into the text.
     Bad { kind: DefKind, place: Text },
     OutOfMemory,
+}
+
+impl From<AllocError> for DefFault {
+    ghost use Rattle.std.specs.Prelude.{◌≡◌};
+    ghost use Rattle.dv_meta.specs.declared.fault.DefFault.TheVariants.{OutOfMemory};
+
+    ghost from_gives = { λ _ fault. fault ≡ OutOfMemory };
+
+    fn from(_error: AllocError) -> DefFault {
+        DefFault::OutOfMemory
+    }
 }

@@ -5,16 +5,35 @@
 //! parental relationship, every rollup can be calculated, and the opening directory can be made.
 #![tactic(auto)]
 
+mod building;
+mod definition;
+mod directory;
 mod draft;
 mod fault;
 mod form;
 mod grammar;
+mod index;
+mod lookup;
+mod names;
+mod numbers;
 mod opening;
+mod place;
 mod reading;
 mod registration;
+mod relations;
 mod relationship;
+mod resolving;
+mod rollups;
+mod seats;
+mod spelling;
+mod steps;
+mod system;
 mod table;
+mod taken;
+mod teams;
+mod unknown;
 
+pub use definition::Definition;
 pub use fault::{DefFault, DefKind};
 pub use opening::{Action, Entry, Opening, OpeningTeam, OpeningUnit, OpeningUser, Role};
 pub use registration::{Message, Registration};

@@ -35,6 +35,18 @@ impl Raw {
             Json::Array(_) | Json::Object(_) => Ok(None),
         }
     }
+
+    /// An equal raw value.
+    pub fn copy(&self, alloc: Global) -> Result<Raw, AllocError>
+        ensures { IfOk result (λ copied. copied ≡ self.now) }
+    {
+        match self {
+            Raw::Null => Ok(Raw::Null),
+            Raw::Bool(flag) => Ok(Raw::Bool(*flag)),
+            Raw::Int(n) => Ok(Raw::Int(*n)),
+            Raw::Str(text) => Ok(Raw::Str(text.copy(alloc)?)),
+        }
+    }
 }
 
 /// Raw values under their names, each name once, in ascending byte order.
@@ -94,6 +106,17 @@ impl Values {
             Some(item) => Some(&item.1),
             None => None,
         }
+    }
+
+    /// Equal values under the same names.
+    pub fn copy(&self, alloc: Global) -> Result<Values, AllocError>
+        ensures { IfOk result (λ copied. copied ≡ self.now) }
+    {
+        let mut values = Values::new(alloc);
+        for (name, value) in self.as_slice() {
+            values.push(name.copy(alloc)?, value.copy(alloc)?)?;
+        }
+        Ok(values)
     }
 
     // Adds a value at the end.

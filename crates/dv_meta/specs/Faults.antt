@@ -1,0 +1,59 @@
+-- The passes over a well-formed text, each over the whole of it; the first pass that finds a fault tells it. The place
+-- of a fault is a path: member names joined by dots, and the places of items, counted from 0, in brackets.
+use Rattle.std.specs.Prelude.{ℕ, List, ◌++◌, codes, chars, ◌≡◌, Option, Some, option_map}
+use Rattle.std.specs.Option.{option_or}
+use Rattle.std.specs.Fmt.{decimal}
+use Rattle.dv_meta.specs.declared.draft.Draft.{Draft}
+use Rattle.dv_meta.specs.declared.fault.DefFault.{DefFault}
+use Rattle.dv_meta.specs.declared.fault.DefFault.TheVariants.{Bad, OutOfMemory}
+use Rattle.dv_meta.specs.declared.fault.DefKind.{DefKind}
+use Rattle.dv_meta.specs.declared.fault.DefKind.TheVariants.{NameTaken, UnknownName, BadCascade, OwnershipClash, SecondParent, BadRollup, UnknownStep, BadDirectory}
+use Rattle.dv_meta.specs.declared.place.Place.{Place}
+use Rattle.dv_meta.specs.declared.place.Place.TheVariants.{Table, Column, Relationship, Registration, BusinessUnit, Role, User, Team}
+use Rattle.dv_meta.specs.declared.resolving.Fault.{Fault}
+use Rattle.dv_meta.specs.NameTaken.{name_taken}
+use Rattle.dv_meta.specs.Opening.{bad_directory}
+use Rattle.dv_meta.specs.Relations.{bad_cascade, ownership_clash, second_parent}
+use Rattle.dv_meta.specs.Rollups.{bad_rollup}
+use Rattle.dv_meta.specs.Steps.{unknown_step}
+use Rattle.dv_meta.specs.UnknownName.{unknown_name}
+
+-- an item of a list
+abbrev pub item_path : List ℕ → ℕ → List ℕ
+item_path name i = name ++ (codes "[" ++ (decimal i ++ codes "]"))
+
+-- the place as text
+unfoldable pub path_of : Place → List ℕ
+path_of (Table i) = item_path (codes "tables") i
+path_of (Column i j) = item_path (codes "tables") i ++ item_path (codes ".columns") j
+path_of (Relationship k) = item_path (codes "relationships") k
+path_of (Registration k) = item_path (codes "steps") k
+path_of (BusinessUnit k) = item_path (codes "units") k
+path_of (Role k) = item_path (codes "roles") k
+path_of (User k) = item_path (codes "users") k
+path_of (Team k) = item_path (codes "teams") k
+
+-- a fault of a kind, if there is a place that has it
+abbrev pub of_kind : DefKind → Option Place → Option Fault
+of_kind kind place = option_map (λ at. record { kind = kind; place = at }) place
+
+-- the first pass that finds a fault, and the place that it finds
+unfoldable pub first_fault : Draft → ℕ → Option Fault
+first_fault draft steps =
+    option_or (of_kind NameTaken (name_taken draft))
+    (option_or (of_kind UnknownName (unknown_name draft))
+    (option_or (of_kind BadCascade (bad_cascade draft))
+    (option_or (of_kind OwnershipClash (ownership_clash draft))
+    (option_or (of_kind SecondParent (second_parent draft))
+    (option_or (of_kind BadRollup (bad_rollup draft))
+    (option_or (of_kind UnknownStep (unknown_step steps draft))
+    (of_kind BadDirectory (bad_directory draft))))))))
+
+-- what is told of a fault: its kind, and its place as text
+abbrev pub refusal_of : Fault → DefFault
+refusal_of fault = Bad fault.kind (chars (path_of fault.place))
+
+-- a refusal tells the first fault, and want of memory tells of none
+abbrev pub IsTold : Option Fault → DefFault → Type 0
+IsTold first (Bad kind place) = option_map refusal_of first ≡ Some (Bad kind place)
+IsTold first OutOfMemory = Unit {0}
