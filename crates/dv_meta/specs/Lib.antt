@@ -13,6 +13,7 @@ pub mod Named
 pub mod Names
 pub mod Numbers
 pub mod Opening
+pub mod Reader
 pub mod Reading
 pub mod Relations
 pub mod Rollups
