@@ -56,7 +56,6 @@ pub not_whole : (text : List ℕ) (r : Option ℕ) → is_whole text ≡ false �
 unfolding whole_of
 not_whole text r e none = rw e none
 
-
 digits_small : (scale : ℕ) (text : List ℕ) → scale ≤ 4 → is_decimals scale text ≡ true → digits_value 10 text < 10 ^ 4
 digits_small scale text few e = let k = decimals_digits scale text e in digits_value_short own text 4 k.0 (omega (arith, k.2))
 

@@ -176,12 +176,13 @@ civil_at date c seconds total is range at year month day hour minute second =
     let low : 1 ≤ c.year = omega (arith, ints, some, year) in
     let high : c.year ≤ 9999 = omega (arith, ints, year, date.year_in.1) in
     let within : c.day ≤ days_in_month (pos c.year) c.month =
-      omega (arith, day, date.day_in.1, ap (λ y. days_in_month y c.month) year, ap (λ m. days_in_month date.year m) month) in
+    omega (arith, day, date.day_in.1, ap (λ y. days_in_month y c.month) year, ap (λ m. days_in_month date.year m) month) in
     let days : days_from_civil (pos c.year) c.month c.day ≡ epoch_day date = rw (year, month, day) refl in
-    let time : c.hour * 3600 + c.minute * 60 + c.second ≡ total % 86400 = rw (hour, minute, second) (time_parts (total % 86400)) in
-    (made c (low, high, omega (arith, month, date.month_in.0), omega (arith, month, date.month_in.1), omega (arith, day, date.day_in.0), within),
-     rw (le-leb c.hour 23 (omega (arith, hour)), le-leb c.minute 59 (omega (arith, minute)), le-leb c.second 59 (omega (arith, second))) refl,
-     rw days (clock_is (epoch_day date) seconds total _ is at time))
+    let time : c.hour * 3600 + c.minute * 60 + c.second ≡ total % 86400 = rw (hour, minute, second) (time_parts (total % 86400)) in (
+      made c (low, high, omega (arith, month, date.month_in.0), omega (arith, month, date.month_in.1), omega (arith, day, date.day_in.0), within),
+      rw (le-leb c.hour 23 (omega (arith, hour)), le-leb c.minute 59 (omega (arith, minute)), le-leb c.second 59 (omega (arith, second))) refl,
+      rw days (clock_is (epoch_day date) seconds total _ is at time),
+    )
 
 pub year_of : (date : Date) (seconds : ℤ) (total : ℕ) → pos total ≡ seconds +ℤ pos 377705116800 → IsMoment seconds → epoch_day date +ℤ pos 4371587 ≡ pos (total / 86400) → pos (unsigned_abs (to_z w16 (of_z w16 date.year))) ≡ date.year
 year_of date seconds total is range at =

@@ -14,6 +14,8 @@ mod order;
 mod raw;
 mod refusal;
 mod spelling;
+#[cfg(test)]
+mod tests;
 mod text;
 mod typing;
 mod value;
