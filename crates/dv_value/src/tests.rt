@@ -92,11 +92,10 @@ fn a_value_is_put_in_its_one_spelling(rt: HostRuntime) -> Result<(), Fail> {
 
 #[test]
 fn a_text_is_taken_from_its_spelling(rt: HostRuntime) -> Result<(), Fail> {
-    match take_value(rt.alloc(), &[6, 0, 0, 0, 2, 0xc3, 0xa9, 7])? {
-        (Value::Text(text), len) => {
-            assert!(rt; text.is("é"));
-            assert_eq!(rt; len, 7);
-        }
+    let (value, len) = take_value(rt.alloc(), &[6, 0, 0, 0, 2, 0xc3, 0xa9, 7])?;
+    assert_eq!(rt; len, 7);
+    match value {
+        Value::Text(text) => assert!(rt; text.is("é")),
         _ => assert!(rt; false, "no text"),
     }
     Ok(())
