@@ -1,10 +1,10 @@
 -- What the text of a moment says.
-use Rattle.std.proofs.Common.{◌≡◌, ◌≢◌, ℕ, zero, suc, ◌+◌, ◌-◌, ◌*◌, ◌/◌, ◌%◌, ◌^◌, ◌<◌, ◌≤◌, List, [], ◌∷◌, ◌++◌, length, refl, subst, sym, ◌∙◌, ap, arith, Bool, true, false, cond, ◌&&◌, leb, leb-true, le-leb, Option, Some, None, ℤ, pos, negsuc, ◌+ℤ◌, ◌*ℤ◌, ◌≤ℤ◌, to_z, of_z, w16, w32, w64, unsigned_abs, Fits}
+use Rattle.std.proofs.Common.{◌≡◌, ◌≢◌, ℕ, ◌+◌, ◌-◌, ◌*◌, ◌/◌, ◌%◌, ◌<◌, ◌≤◌, List, [], ◌∷◌, length, refl, ◌∙◌, ap, arith, Bool, true, false, cond, ◌&&◌, leb-true, le-leb, Some, None, ℤ, pos, negsuc, ◌+ℤ◌, ◌*ℤ◌, ◌≤ℤ◌, to_z, of_z, w16, w32, w64, unsigned_abs, Fits}
 use lib.Dec.{T}
 use lib.Signed.{non_neg}
 use Rattle.std.specs.Str.{bytes_eq}
 use Rattle.std.proofs.lemmas.Slice.Eq.{bytes_eq-Decides}
-use Rattle.jiff_core.specs.Calendar.{IsDate, IsEpochDay, IsCivilDate, days_in_month, days_from_civil}
+use Rattle.jiff_core.specs.Calendar.{IsDate, IsEpochDay, days_in_month, days_from_civil}
 use Rattle.jiff_core.specs.Date.{epoch_day, IsYmd}
 use Rattle.jiff_core.specs.declared.civil.date.Date.{Date}
 use Rattle.std.proofs.lemmas.Int.{ints, by_lt_z}
@@ -18,7 +18,7 @@ use Rattle.std.proofs.lemmas.Str.{IsAscii-append}
 use Rattle.std.proofs.lemmas.Str.Ascii.{IsAscii-nil, IsAscii-cons}
 use Rattle.dv_value.proofs.Amounts.{ascii_places}
 use Rattle.dv_value.specs.Digits.{places}
-use Rattle.dv_value.specs.Moment.{IsMoment, is_civil_date, is_civil_time, seconds_of, civil_text, civil_of, moment_of, IsNear, IsDateOf, IsCivilAt}
+use Rattle.dv_value.specs.Moment.{IsMoment, is_civil_date, is_civil_time, seconds_of, civil_text, civil_of, moment_of, IsNear, IsCivilAt}
 use Rattle.dv_value.specs.declared.moment.Civil.{Civil}
 
 length-civil_text : (c : Civil) → length (civil_text c) ≡ 20

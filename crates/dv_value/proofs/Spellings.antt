@@ -1,5 +1,5 @@
 -- What the spellings of values have in common: each has its tag and at least so many bytes, and no bytes begin with two.
-use Rattle.std.proofs.Common.{◌≡◌, ℕ, zero, suc, ◌+◌, ◌<◌, ◌≤◌, ◌^◌, ℤ, FitsSigned, List, [], ◌∷◌, ◌++◌, length, take, drop, get_or, refl, subst, sym, ◌∙◌, ap, arith, encode_utf8_all, Option, Result, Ok, Err, Bool, true, false, cond, eqb, chars, append-nil, length-take, length-drop, IsUtf8}
+use Rattle.std.proofs.Common.{◌≡◌, ℕ, zero, suc, ◌+◌, ◌<◌, ◌≤◌, ℤ, FitsSigned, List, [], ◌∷◌, ◌++◌, length, take, drop, get_or, refl, subst, sym, ◌∙◌, ap, arith, encode_utf8_all, Result, Ok, Err, Bool, true, false, cond, eqb, chars, append-nil, length-take, length-drop, IsUtf8}
 use Rattle.std.specs.Result.{IfOk, IsErrOf, MatchResult}
 use Rattle.std.specs.Int.{from_bool, from_be_bytes, to_be_bytes, cast_unsigned, cast_signed, w32, w64, w128}
 use Rattle.std.proofs.lemmas.Int.{to_z-of_z, ints}

@@ -1,8 +1,8 @@
-use Rattle.std.proofs.Common.{sym, ◌∙◌, ap, encode_utf8_all, FitsSigned, w64}
+use Rattle.std.proofs.Common.{◌∙◌, ap, encode_utf8_all, FitsSigned, w64}
 use Rattle.std.proofs.lemmas.Int.{to_z-of_z}
 use Rattle.std.proofs.lemmas.Result.{IfOk-weaker}
 use Rattle.std.proofs.lemmas.Str.Ascii.{encodes-IsAscii}
-use Rattle.dv_value.specs.Moment.{moment_of, civil_text}
+use Rattle.dv_value.specs.Moment.{moment_of}
 use Rattle.dv_value.proofs.Moments.{ascii_civil, moment_of-text}
 use Rattle.dv_value.proofs.moment.print_moment.Goals as goal
 
