@@ -1,5 +1,5 @@
 -- What the parts of an amount's text say, and that a printed amount is read again.
-use Rattle.std.proofs.Common.{◌≡◌, ◌≢◌, ℕ, zero, suc, ◌+◌, ◌-◌, ◌*◌, ◌/◌, ◌%◌, ◌^◌, ◌<◌, ◌≤◌, List, [], ◌∷◌, ◌++◌, length, take, drop, get_or, refl, subst, sym, ◌∙◌, ap, arith, rules, Bool, true, false, cond, ◌&&◌, ◌||◌, not, eqb, ltb, leb, ltb-true, leb-true, lt-ltb, le-ltb, le-leb, ne_eqb, Bor, ℤ, pos, negsuc, neg_ℤ, ◌+ℤ◌, ◌-ℤ◌, FitsSigned, Option, Some, None, Result, Ok, Err, Fits, w64, encode_utf8, append_assoc, append-nil, zero-add, length-append, chars}
+use Rattle.std.proofs.Common.{◌≡◌, ◌≢◌, ℕ, zero, suc, ◌+◌, ◌-◌, ◌*◌, ◌/◌, ◌%◌, ◌^◌, ◌<◌, ◌≤◌, List, [], ◌∷◌, ◌++◌, length, take, drop, get_or, refl, subst, sym, ◌∙◌, ap, arith, rules, Bool, true, false, ◌&&◌, ◌||◌, not, eqb, ltb, leb, ltb-true, leb-true, lt-ltb, le-ltb, le-leb, ne_eqb, Bor, ℤ, pos, negsuc, neg_ℤ, ◌+ℤ◌, ◌-ℤ◌, FitsSigned, Option, Some, None, Result, Ok, Err, Fits, w64, encode_utf8, append_assoc, append-nil, zero-add, length-append, chars}
 use Rattle.std.specs.Prelude.{if◌then◌else◌, unsigned_abs, int_lt}
 use Rattle.std.proofs.Math.Nat.{mul-le-mul_left, mul-le-mul_right, pow-suc, div-add-mod, div-add-mod', div-le_self, div-div-eq-div-mul}
 use Rattle.std.proofs.lemmas.Str.Pattern.{IsSplitOnceResult, split_once_first}
@@ -14,7 +14,7 @@ use Rattle.std.specs.Fmt.{decimal}
 use Rattle.std.specs.Char.{is_ascii_digit, digit_value}
 use Rattle.std.specs.List.{list_all, position_or_len, before_first, after_first}
 use Rattle.std.specs.Option.{MatchOption, SomeIff, option_map, option_and_then}
-use Rattle.std.specs.Result.{OkIff, result_ok}
+use Rattle.std.specs.Result.{result_ok}
 use Rattle.std.specs.Str.Parse.{digits_value, digits_value_after, ParsesUnsigned}
 use Rattle.std.proofs.lemmas.Str.Parse.{IsDigitsTest, IsNumeralModel, numerals_by_value, parse_digits, digits_value_short}
 use Rattle.dv_value.specs.Digits.{places}
@@ -55,7 +55,6 @@ parsed_whole {E} text (Err x) e h = let k = parse_digits own {E = E} 64 text (Er
 pub not_whole : (text : List ℕ) (r : Option ℕ) → is_whole text ≡ false → r ≡ None → MatchOption (whole_of text) (r ≡ None) (λ n. SomeIff r (n < 2 ^ 64) n)
 unfolding whole_of
 not_whole text r e none = rw e none
-
 
 digits_small : (scale : ℕ) (text : List ℕ) → scale ≤ 4 → is_decimals scale text ≡ true → digits_value 10 text < 10 ^ 4
 digits_small scale text few e = let k = decimals_digits scale text e in digits_value_short own text 4 k.0 (omega (arith, k.2))

@@ -1,5 +1,5 @@
 -- The empty text has no characters.
-use Rattle.std.proofs.Common.{◌≡◌, ℕ, List, [], chars}
+use Rattle.std.proofs.Common.{◌≡◌, [], chars}
 use Rattle.std.proofs.lemmas.Str.{chars-nil}
 
 pub no_characters : chars [] ≡ []

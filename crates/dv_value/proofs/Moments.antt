@@ -1,10 +1,10 @@
 -- What the text of a moment says.
-use Rattle.std.proofs.Common.{◌≡◌, ◌≢◌, ℕ, zero, suc, ◌+◌, ◌-◌, ◌*◌, ◌/◌, ◌%◌, ◌^◌, ◌<◌, ◌≤◌, List, [], ◌∷◌, ◌++◌, length, refl, subst, sym, ◌∙◌, ap, arith, Bool, true, false, cond, ◌&&◌, leb, leb-true, le-leb, Option, Some, None, ℤ, pos, negsuc, ◌+ℤ◌, ◌*ℤ◌, ◌≤ℤ◌, to_z, of_z, w16, w32, w64, unsigned_abs, Fits}
+use Rattle.std.proofs.Common.{◌≡◌, ◌≢◌, ℕ, ◌+◌, ◌-◌, ◌*◌, ◌/◌, ◌%◌, ◌<◌, ◌≤◌, List, [], ◌∷◌, length, refl, ◌∙◌, ap, arith, Bool, true, false, cond, ◌&&◌, leb-true, le-leb, Some, None, ℤ, pos, negsuc, ◌+ℤ◌, ◌*ℤ◌, ◌≤ℤ◌, to_z, of_z, w16, w32, w64, unsigned_abs, Fits}
 use lib.Dec.{T}
 use lib.Signed.{non_neg}
 use Rattle.std.specs.Str.{bytes_eq}
 use Rattle.std.proofs.lemmas.Slice.Eq.{bytes_eq-Decides}
-use Rattle.jiff_core.specs.Calendar.{IsDate, IsEpochDay, IsCivilDate, days_in_month, days_from_civil}
+use Rattle.jiff_core.specs.Calendar.{IsDate, IsEpochDay, days_in_month, days_from_civil}
 use Rattle.jiff_core.specs.Date.{epoch_day, IsYmd}
 use Rattle.jiff_core.specs.declared.civil.date.Date.{Date}
 use Rattle.std.proofs.lemmas.Int.{ints, by_lt_z}
@@ -18,7 +18,7 @@ use Rattle.std.proofs.lemmas.Str.{IsAscii-append}
 use Rattle.std.proofs.lemmas.Str.Ascii.{IsAscii-nil, IsAscii-cons}
 use Rattle.dv_value.proofs.Amounts.{ascii_places}
 use Rattle.dv_value.specs.Digits.{places}
-use Rattle.dv_value.specs.Moment.{IsMoment, is_civil_date, is_civil_time, seconds_of, civil_text, civil_of, moment_of, IsNear, IsDateOf, IsCivilAt}
+use Rattle.dv_value.specs.Moment.{IsMoment, is_civil_date, is_civil_time, seconds_of, civil_text, civil_of, moment_of, IsNear, IsCivilAt}
 use Rattle.dv_value.specs.declared.moment.Civil.{Civil}
 
 length-civil_text : (c : Civil) → length (civil_text c) ≡ 20
@@ -176,12 +176,13 @@ civil_at date c seconds total is range at year month day hour minute second =
     let low : 1 ≤ c.year = omega (arith, ints, some, year) in
     let high : c.year ≤ 9999 = omega (arith, ints, year, date.year_in.1) in
     let within : c.day ≤ days_in_month (pos c.year) c.month =
-      omega (arith, day, date.day_in.1, ap (λ y. days_in_month y c.month) year, ap (λ m. days_in_month date.year m) month) in
+    omega (arith, day, date.day_in.1, ap (λ y. days_in_month y c.month) year, ap (λ m. days_in_month date.year m) month) in
     let days : days_from_civil (pos c.year) c.month c.day ≡ epoch_day date = rw (year, month, day) refl in
-    let time : c.hour * 3600 + c.minute * 60 + c.second ≡ total % 86400 = rw (hour, minute, second) (time_parts (total % 86400)) in
-    (made c (low, high, omega (arith, month, date.month_in.0), omega (arith, month, date.month_in.1), omega (arith, day, date.day_in.0), within),
-     rw (le-leb c.hour 23 (omega (arith, hour)), le-leb c.minute 59 (omega (arith, minute)), le-leb c.second 59 (omega (arith, second))) refl,
-     rw days (clock_is (epoch_day date) seconds total _ is at time))
+    let time : c.hour * 3600 + c.minute * 60 + c.second ≡ total % 86400 = rw (hour, minute, second) (time_parts (total % 86400)) in (
+      made c (low, high, omega (arith, month, date.month_in.0), omega (arith, month, date.month_in.1), omega (arith, day, date.day_in.0), within),
+      rw (le-leb c.hour 23 (omega (arith, hour)), le-leb c.minute 59 (omega (arith, minute)), le-leb c.second 59 (omega (arith, second))) refl,
+      rw days (clock_is (epoch_day date) seconds total _ is at time),
+    )
 
 pub year_of : (date : Date) (seconds : ℤ) (total : ℕ) → pos total ≡ seconds +ℤ pos 377705116800 → IsMoment seconds → epoch_day date +ℤ pos 4371587 ≡ pos (total / 86400) → pos (unsigned_abs (to_z w16 (of_z w16 date.year))) ≡ date.year
 year_of date seconds total is range at =

@@ -1,5 +1,5 @@
 -- The order of values is a total one.
-use Rattle.std.proofs.Common.{◌≡◌, List, ℕ, refl, sym, ◌∙◌, ap, Bool, true, false, rules, encode_utf8_all}
+use Rattle.std.proofs.Common.{◌≡◌, List, ℕ, refl, sym, ◌∙◌, ap, rules, encode_utf8_all}
 use Rattle.caseless.specs.Caseless.{default_case_fold}
 use Rattle.std.specs.Ordering.{is_lt, ordering_reverse, nat_cmp}
 use Rattle.std.specs.declared.cmp.Ordering.{Ordering}

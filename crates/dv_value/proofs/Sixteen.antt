@@ -43,7 +43,7 @@ sum_of_halves a b c d e f g h i j k l m n o p = omega arith
 small_take : (n : ℕ) (bytes : List ℕ) → ((i : ℕ) → get_or bytes i 0 < 256) → (i : ℕ) → get_or (take n bytes) i 0 < 256
 small_take n bytes small i =
     elim (cases_lt i n) [
-      inl h ↦ rw (get_or-take n bytes i 0 h) (small i)
+      | inl h ↦ rw (get_or-take n bytes i 0 h) (small i)
       | inr h ↦ let past : length (take n bytes) ≤ i = omega (arith, length-take n bytes) in rw (get_or_past (take n bytes) i 0 past) (omega arith)
     ]
 

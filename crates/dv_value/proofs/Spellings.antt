@@ -1,5 +1,5 @@
 -- What the spellings of values have in common: each has its tag and at least so many bytes, and no bytes begin with two.
-use Rattle.std.proofs.Common.{◌≡◌, ℕ, zero, suc, ◌+◌, ◌<◌, ◌≤◌, ◌^◌, ℤ, FitsSigned, List, [], ◌∷◌, ◌++◌, length, take, drop, get_or, refl, subst, sym, ◌∙◌, ap, arith, encode_utf8_all, Option, Result, Ok, Err, Bool, true, false, cond, eqb, chars, append-nil, length-take, length-drop, IsUtf8}
+use Rattle.std.proofs.Common.{◌≡◌, ℕ, zero, suc, ◌+◌, ◌<◌, ◌≤◌, ℤ, FitsSigned, List, [], ◌∷◌, ◌++◌, length, take, drop, get_or, refl, subst, sym, ◌∙◌, ap, arith, encode_utf8_all, Result, Ok, Err, Bool, true, false, cond, eqb, chars, append-nil, length-take, length-drop, IsUtf8}
 use Rattle.std.specs.Result.{IfOk, IsErrOf, MatchResult}
 use Rattle.std.specs.Int.{from_bool, from_be_bytes, to_be_bytes, cast_unsigned, cast_signed, w32, w64, w128}
 use Rattle.std.proofs.lemmas.Int.{to_z-of_z, ints}
@@ -34,11 +34,15 @@ pub record Follows (tag : ℕ) (body : List ℕ) (value : Value) (len : ℕ) : T
 
 pub follows : (tag : ℕ) (body : List ℕ) (value : Value) (len : ℕ) → BeginsWith (tag ∷ body) value len → (n : ℕ) × (len ≡ suc n) × Follows tag body value n
 follows tag body value zero b = absurd (cc b.front)
-follows tag body value (suc n) b = (n, refl, record {
-  tag_is = cc b.front;
-  body_is = cc b.front;
-  body_within = omega (arith, b.within);
-})
+follows tag body value (suc n) b = (
+  n,
+  refl,
+  record {
+    tag_is = cc b.front;
+    body_is = cc b.front;
+    body_within = omega (arith, b.within);
+  },
+)
 
 -- how many bytes follow a tag at least
 abbrev least_len : ℕ → ℕ
@@ -175,7 +179,7 @@ no_text body len number none (Text text) n b =
     let (m, is, f) = follows 6 body (Text text) n b in
     let (front, back, within) = text_front body text m f.body_is f.body_within in
     let same_len : len ≡ length (encode_utf8_all text) =
-      sym (from_be_bytes-to_be_bytes_4 len number.number_fits) ∙ ap (from_be_bytes w32) (sym number.number_front ∙ front) ∙ from_be_bytes-to_be_bytes_4 (length (encode_utf8_all text)) b.has_spelling in
+    sym (from_be_bytes-to_be_bytes_4 len number.number_fits) ∙ ap (from_be_bytes w32) (sym number.number_front ∙ front) ∙ from_be_bytes-to_be_bytes_4 (length (encode_utf8_all text)) b.has_spelling in
     none text b.is_value (ap (λ k. take k (drop 4 body)) same_len ∙ back) (omega (arith, same_len, within))
 no_text body len number none value n b = absurd (omega (arith, (follows 6 body value n b).2.tag_is))
 

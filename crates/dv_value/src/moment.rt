@@ -185,7 +185,8 @@ fn pair(text: &[u8], place: usize) -> u32
     ensures value { result ≡ pair_at text.now place }
     ensures small { result < 10000 }
 {
-    u32::from(text[place].saturating_sub(b'0')) * 10 + u32::from(text[place + 1].saturating_sub(b'0'))
+    u32::from(text[place].saturating_sub(b'0')) * 10
+        + u32::from(text[place + 1].saturating_sub(b'0'))
 }
 
 // The digit that counts a unit.

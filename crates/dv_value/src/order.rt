@@ -31,8 +31,7 @@ pub fn compare(alloc: Global, a: &Value, b: &Value) -> Result<Ordering, AllocErr
 pub fn the_order_of_values_is_total()
     ensures total { IsTotalOrder order }
     ensures sorts { IsStrictWeakOrder (λ a b. is_lt (order a b)) }
-{
-}
+{}
 
 // The order of two texts. The same text needs no memory.
 fn compare_texts(alloc: Global, a: &str, b: &str) -> Result<Ordering, AllocError>

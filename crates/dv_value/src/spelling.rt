@@ -34,12 +34,19 @@ impl From<AllocError> for TakeFault {
 }
 
 const EMPTY: u8 = 0;
+
 const FLAG: u8 = 1;
+
 const WHOLE: u8 = 2;
+
 const CHOICE: u8 = 3;
+
 const AMOUNT: u8 = 4;
+
 const MOMENT: u8 = 5;
+
 const TEXT: u8 = 6;
+
 const REF: u8 = 7;
 
 /// Appends the spelling of a value: a byte for its kind, then what it holds. The room is reserved once.
@@ -99,8 +106,7 @@ pub fn take_value(alloc: Global, bytes: &[u8]) -> Result<(Value, usize), TakeFau
 /// No spelling begins another one, so two values never share one. The call does nothing: what it ensures is the law.
 pub fn no_spelling_begins_another()
     ensures { (a : Value) (b : Value) (rest : List ℕ) → IsValue a → HasSpelling a → IsValue b → HasSpelling b → spelling_of b ≡ spelling_of a ++ rest → (a ≡ b) × (rest ≡ []) }
-{
-}
+{}
 
 // Takes the value with this tag.
 #[tactic(auto, unfolding(crate::specs::Spelling::tag_of, crate::specs::Spelling::body_of, crate::specs::Spelling::HasSpelling, crate::specs::Spelling::IsValue))]

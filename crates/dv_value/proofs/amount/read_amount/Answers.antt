@@ -1,4 +1,4 @@
-use Rattle.std.proofs.Common.{arith, refl, sym, ◌∙◌}
+use Rattle.std.proofs.Common.{arith}
 use Rattle.std.proofs.lemmas.Str.Pattern.{strip_prefix_char}
 use Rattle.dv_value.proofs.Amounts.{no_negative, negative, no_positive, positive}
 use Rattle.dv_value.proofs.amount.read_amount.Goals as goal

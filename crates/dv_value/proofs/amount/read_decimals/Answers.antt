@@ -1,4 +1,4 @@
-use Rattle.std.proofs.Common.{◌≡◌, ◌<◌, ◌≤◌, ◌*◌, ◌^◌, length, refl, ◌∙◌, sym, true, false, arith}
+use Rattle.std.proofs.Common.{◌≡◌, true, false, arith}
 use Rattle.dv_value.specs.Amount.{is_decimals}
 use Rattle.dv_value.proofs.Amounts.{parsed_decimals, decimals_digits, decimals_parse, decimals_fit, no_decimals, product_fits}
 use Rattle.dv_value.proofs.amount.read_decimals.Goals as goal

@@ -1,4 +1,4 @@
-use Rattle.std.proofs.Common.{◌≡◌, refl, ◌∙◌, sym, true, false}
+use Rattle.std.proofs.Common.{◌≡◌, refl, true, false}
 use Rattle.dv_value.specs.Amount.{is_whole}
 use Rattle.dv_value.proofs.Amounts.{parsed_whole, not_whole}
 use Rattle.dv_value.proofs.amount.read_whole.Goals as goal

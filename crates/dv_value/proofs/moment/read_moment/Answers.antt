@@ -1,4 +1,4 @@
-use Rattle.std.proofs.Common.{◌≢◌, length, arith}
+use Rattle.std.proofs.Common.{arith}
 use Rattle.dv_value.proofs.Moments.{other_length}
 use Rattle.dv_value.proofs.moment.read_moment.Goals as goal
 

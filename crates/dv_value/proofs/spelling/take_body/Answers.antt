@@ -1,4 +1,3 @@
-use Rattle.std.proofs.Common.{arith}
 use Rattle.dv_value.proofs.Spellings.{too_short, no_flag, no_moment}
 use Rattle.dv_value.proofs.spelling.take_body.Goals as goal
 

@@ -1,5 +1,4 @@
-use Rattle.std.proofs.Common.{arith, ap, sym, ◌∙◌, ◌≡◌, take}
-use Rattle.std.specs.Int.{to_be_bytes, from_be_bytes, w128}
+use Rattle.std.proofs.Common.{arith}
 use Rattle.dv_value.proofs.Sixteen.{be_bytes_16_of}
 use Rattle.dv_value.proofs.spelling.take_sixteen.Goals as goal
 

@@ -1,5 +1,4 @@
-use Rattle.std.proofs.Common.{ap, ◌∙◌, sym}
-use Rattle.std.specs.Result.{IfOk, IsErrOf}
+use Rattle.std.proofs.Common.{◌∙◌, sym}
 use Rattle.dv_value.proofs.Spellings.{seam, taken_again}
 use Rattle.dv_value.proofs.spelling.take_value.Goals as goal
 

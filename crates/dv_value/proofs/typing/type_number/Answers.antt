@@ -1,4 +1,4 @@
-use Rattle.std.proofs.Common.{◌≡◌, ◌∙◌, ◌&&◌, ap, FitsSigned, w64, List, ℤ}
+use Rattle.std.proofs.Common.{◌∙◌, ◌&&◌, ap, FitsSigned, w64, List, ℤ}
 use Rattle.std.specs.List.{list_any}
 use Rattle.std.specs.Ordering.{int_eq}
 use Rattle.std.proofs.lemmas.Int.{to_z-of_z}

@@ -1,4 +1,4 @@
-use Rattle.std.proofs.Common.{◌≡◌, refl, sym, ◌∙◌, arith, w8, w16, true≢false}
+use Rattle.std.proofs.Common.{refl, sym, ◌∙◌, arith, w8, w16, true≢false}
 use Rattle.std.proofs.lemmas.Int.{to_z_pos}
 use Rattle.dv_value.specs.Moment.{IsNear}
 use Rattle.dv_value.proofs.Moments.{far_date, has_date, no_date, day_is}

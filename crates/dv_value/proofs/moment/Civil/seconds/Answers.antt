@@ -1,4 +1,4 @@
-use Rattle.std.proofs.Common.{◌≡◌, ◌≤◌, ◌∙◌, sym, true, arith, refl, ap, Some}
+use Rattle.std.proofs.Common.{◌≡◌, ◌∙◌, sym, true, arith, ap, Some}
 use Rattle.dv_value.specs.Moment.{is_civil_time, seconds_of}
 use Rattle.dv_value.proofs.Moments.{time_bounds, seconds_are}
 use Rattle.dv_value.proofs.moment.Civil.seconds.Goals as goal
