@@ -83,3 +83,30 @@ pub fn read_version(text: &str) -> Option<u64>
         None
     }
 }
+
+#[cfg(test)]
+mod tests {
+    use super::*;
+
+    #[test]
+    fn a_token_is_read_only_as_it_is_printed(rt: HostRuntime) {
+        for text in ["0", "5", "6+5", "18446744073709551615+0"] {
+            let token = Token::parse(text).expect(&rt, "a token");
+            let printed = token.to_text(rt.alloc()).expect(&rt, "memory");
+            assert_eq!(rt; printed.as_str(), text);
+        }
+        for text in [
+            "",
+            "05",
+            "+5",
+            "-1",
+            "5+6",
+            "5+5",
+            "6+5+4",
+            "6 +5",
+            "18446744073709551616",
+        ] {
+            assert!(rt; Token::parse(text).is_none(), "at {text}");
+        }
+    }
+}

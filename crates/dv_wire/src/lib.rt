@@ -12,6 +12,8 @@ mod printing;
 mod privileges;
 mod querying;
 mod reading;
+#[cfg(test)]
+mod tests;
 mod verb;
 mod wire;
 
