@@ -90,56 +90,6 @@ fn bad(fault: Fault) -> DefFault
 #[cfg(test)]
 mod tests {
     use super::*;
-    use std::test::Fail;
-
-    #[test]
-    fn the_first_fault_of_form_is_told_at_its_place(rt: HostRuntime) -> Result<(), Fail> {
-        let many = r#"{"zz":1,"a":1}"#;
-        for (text, kind, place) in [
-            ("[]", DefKind::NotJson, ""),
-            ("{", DefKind::NotJson, ""),
-            (many, DefKind::UnknownField, "a"),
-            (
-                r#"{"root":"00000000-0000-0000-0000-000000000000"}"#,
-                DefKind::BadForm,
-                "root",
-            ),
-            (
-                r#"{"root":"00000000-0000-0000-0000-000000000100","admin":"{00000000000000000000000000000100}","tables":[]}"#,
-                DefKind::BadForm,
-                "admin",
-            ),
-            (
-                r#"{"root":"00000000-0000-0000-0000-000000000100","admin":"00000000-0000-0000-0000-000000000101","tables":[{"name":"a","owned":"user","columns":[{"name":"B","type":"whole","max":1}]}]}"#,
-                DefKind::BadForm,
-                "tables[0].columns[0].name",
-            ),
-            (
-                r#"{"root":"00000000-0000-0000-0000-000000000100","admin":"00000000-0000-0000-0000-000000000101","tables":[],"steps":[{"step":0,"message":"delete","table":"a","stage":40,"rank":1,"post":[]}]}"#,
-                DefKind::BadForm,
-                "steps[0].post",
-            ),
-            (
-                r#"{"root":"00000000-0000-0000-0000-000000000100","admin":"00000000-0000-0000-0000-000000000101","tables":[],"roles":[{"id":"00000000-0000-0000-0000-000000000201","inheritance":"team","privileges":[["Read","a"]]}]}"#,
-                DefKind::BadForm,
-                "roles[0].privileges[0]",
-            ),
-        ] {
-            match read_form(rt.alloc(), text.as_bytes()) {
-                Err(
-                    DefFault::Bad {
-                        kind: told,
-                        place: at,
-                    },
-                ) => {
-                    assert_eq!(rt; told, kind, "of {text}");
-                    assert_eq!(rt; at.as_str(), place, "of {text}");
-                }
-                _ => assert!(rt; false, "of {text}"),
-            }
-        }
-        Ok(())
-    }
 
     #[test]
     fn a_text_of_the_right_form_is_read(rt: HostRuntime) {
