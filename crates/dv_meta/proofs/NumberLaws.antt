@@ -1,5 +1,5 @@
 -- Numbers are small.
-use Rattle.std.proofs.Common.{◌≡◌, ℕ, ◌+◌, ◌*◌, ◌<◌, ◌≤◌, List, [], ◌∷◌, ◌++◌, length, map, flat_map, Some, arith}
+use Rattle.std.proofs.Common.{◌≡◌, ℕ, ◌*◌, ◌<◌, ◌≤◌, List, [], ◌∷◌, ◌++◌, length, map, flat_map, Some, arith}
 use Rattle.std.proofs.lemmas.List.{length-map, length-append}
 use Rattle.dv_meta.specs.declared.draft.DraftColumn.{DraftColumn}
 use Rattle.dv_meta.specs.declared.draft.DraftTable.{DraftTable}

@@ -1,5 +1,5 @@
 -- The places of ids, item by item.
-use Rattle.std.proofs.Common.{◌≡◌, ℕ, ◌+◌, ◌<◌, ◌≤◌, List, [], ◌∷◌, ◌++◌, length, map, take, get_or, Option, Some, None, cond, eqb, refl, sym, ap, ◌∙◌, arith, zero-add, subst}
+use Rattle.std.proofs.Common.{◌≡◌, ℕ, ◌+◌, ◌<◌, ◌≤◌, List, [], ◌∷◌, ◌++◌, length, map, take, get_or, Option, Some, None, cond, eqb, sym, ap, ◌∙◌, arith, zero-add, subst}
 use Rattle.std.specs.Option.{option_or}
 use Rattle.std.proofs.lemmas.List.{map-append, take_more, take_all, length-map, length-take-le}
 use Rattle.dv_meta.specs.declared.seats.Ids.{Ids}

@@ -1,6 +1,6 @@
 -- The columns of a table that take a name, one by one.
-use Rattle.std.proofs.Common.{◌≡◌, ℕ, ◌+◌, ◌<◌, ◌≤◌, Bool, true, false, List, [], length, take, flat_map, get_or, Option, Some, None, cond, refl, sym, ap, ◌∙◌, arith}
-use Rattle.std.proofs.lemmas.List.{length-append, take_more}
+use Rattle.std.proofs.Common.{◌≡◌, ℕ, ◌+◌, ◌<◌, ◌≤◌, Bool, true, false, [], length, take, flat_map, get_or, Option, Some, None, cond, refl, sym, ap, ◌∙◌, arith}
+use Rattle.std.proofs.lemmas.List.{length-append}
 use Rattle.std.specs.List.{list_any}
 use Rattle.dv_meta.specs.declared.draft.DraftColumn.{DraftColumn}
 use Rattle.dv_meta.specs.declared.draft.DraftTable.{DraftTable}
@@ -26,7 +26,7 @@ unfolding column_number
 column_number-next table j column within read =
     let more = flat_map-take-more names_of [] table.columns j column within read in
     let longer : length (flat_map names_of (take (j + 1) table.columns)) ≡ length (flat_map names_of (take j table.columns)) + length (names_of column) =
-        sym (ap length more) ∙ length-append (flat_map names_of (take j table.columns)) (names_of column) in
+    sym (ap length more) ∙ length-append (flat_map names_of (take j table.columns)) (names_of column) in
     omega (arith, longer)
 
 pub taken_in-is : (table : DraftTable) → taken_in table ≡ first_from (takes_at table) 0 table.columns

@@ -1,5 +1,5 @@
 -- The accepted definition of a text without a fault: columns are numbered, names are resolved to numbers.
-use Rattle.std.specs.Prelude.{◌≡◌, ℕ, Bool, false, List, [], ◌∷◌, ◌++◌, map, flat_map, Option, Some, None, unwrap_or, option_map, option_and_then, pos, negsuc}
+use Rattle.std.specs.Prelude.{◌≡◌, ℕ, Bool, false, List, [], ◌∷◌, ◌++◌, map, flat_map, Option, unwrap_or, option_and_then, pos, negsuc}
 use Rattle.std.specs.Option.{option_map_or}
 use Rattle.dv_value.specs.declared.kind.Kind.{Kind}
 use Rattle.dv_value.specs.declared.kind.Kind.TheVariants.{Whole, Amount, Moment, Ref}

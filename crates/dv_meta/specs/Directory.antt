@@ -80,6 +80,7 @@ adding_entry owned entry = on_table entry.table
     on_owned None = Some UnknownTable
     on_owned (Some true) = None
     on_owned (Some false) = if not (entry.depth == 3) || is_owners' entry.action then Some BadEntry else None
+
     on_table : Option Name → Option Cause
     on_table None = None
     on_table (Some name) = on_owned (owned name)

@@ -1,5 +1,5 @@
 -- What an index of a definition tells: for each name, its first place.
-use Rattle.std.specs.Prelude.{ℕ, ◌≡◌, ◌≤◌, List, [], ◌∷◌, length}
+use Rattle.std.specs.Prelude.{◌≡◌, ◌≤◌, List, [], ◌∷◌, length}
 use Rattle.dv_meta.specs.declared.draft.Draft.{Draft}
 use Rattle.dv_meta.specs.declared.draft.DraftTable.{DraftTable}
 use Rattle.dv_meta.specs.declared.index.Columns.{Columns}

@@ -1,6 +1,6 @@
 -- A name is taken where two tables, two relationships or two columns of one table have it, system columns and the
 -- companions of rollups too; and a column is taken where two relationships have it. The later one is at fault.
-use Rattle.std.specs.Prelude.{ℕ, Bool, false, ◌||◌, List, Option, Some, None, if◌then◌else◌, nat_lt, option_map, position}
+use Rattle.std.specs.Prelude.{ℕ, Bool, false, ◌||◌, Option, Some, None, if◌then◌else◌, nat_lt, option_map, position}
 use Rattle.std.specs.List.{list_any, enumerate_from}
 use Rattle.std.specs.Option.{option_or, option_map_or}
 use Rattle.dv_meta.specs.declared.draft.Draft.{Draft}

@@ -11,7 +11,6 @@ use Rattle.dv_meta.specs.declared.draft.DraftRelationship.{DraftRelationship}
 use Rattle.dv_meta.specs.declared.draft.DraftRegistration.{DraftRegistration}
 use Rattle.dv_meta.specs.declared.draft.DraftRollup.{DraftRollup}
 use Rattle.dv_meta.specs.declared.draft.DraftTable.{DraftTable}
-use Rattle.dv_meta.specs.declared.opening.Entry.{Entry}
 use Rattle.dv_meta.specs.declared.opening.Role.{Role}
 use Rattle.dv_meta.specs.declared.place.Place.{Place}
 use Rattle.dv_meta.specs.declared.place.Place.TheVariants as at

@@ -37,7 +37,8 @@ fn unlimited(form: &DraftForm) -> Kind
         DraftForm::Plain(kind) => match kind {
             Kind::Amount { scale } => Kind::Amount { scale: *scale },
             Kind::Whole { .. } => any_whole(),
-            Kind::Flag | Kind::Choice { .. } | Kind::Moment | Kind::Text { .. } | Kind::Ref => any_whole(),
+            Kind::Flag | Kind::Choice { .. } | Kind::Moment | Kind::Text { .. } | Kind::Ref =>
+                any_whole(),
         },
         DraftForm::Lookup => any_whole(),
         DraftForm::Rollup(_) => any_whole(),
@@ -105,7 +106,12 @@ fn copy_names(alloc: Global, names: &Names) -> Result<Names, AllocError>
 }
 
 #[tactic(auto, unfolding(crate::specs::Accepted::relationship_of))]
-fn relationship_of(alloc: Global, draft: &Draft, index: &Index, r: &DraftRelationship) -> Result<Relationship, AllocError>
+fn relationship_of(
+    alloc: Global,
+    draft: &Draft,
+    index: &Index,
+    r: &DraftRelationship,
+) -> Result<Relationship, AllocError>
     requires index { IsIndexOf draft.now index.now }
     requires limits { IsWithinLimits draft.now }
     ensures { IfOk result (λ relationship. relationship ≡ relationship_of draft.now r.now) }
@@ -133,7 +139,12 @@ fn copy_given(alloc: Global, names: &Option<Names>) -> Result<Option<Names>, All
 }
 
 #[tactic(auto, unfolding(crate::specs::Accepted::registration_of))]
-fn registration_of(alloc: Global, draft: &Draft, index: &Index, g: &DraftRegistration) -> Result<Registration, AllocError>
+fn registration_of(
+    alloc: Global,
+    draft: &Draft,
+    index: &Index,
+    g: &DraftRegistration,
+) -> Result<Registration, AllocError>
     requires index { IsIndexOf draft.now index.now }
     requires limits { IsWithinLimits draft.now }
     ensures { IfOk result (λ registration. registration ≡ registration_of draft.now g.now) }
@@ -153,7 +164,11 @@ fn registration_of(alloc: Global, draft: &Draft, index: &Index, g: &DraftRegistr
 }
 
 /// The registrations, with their tables by number.
-pub(crate) fn registrations_of(alloc: Global, draft: &Draft, index: &Index) -> Result<Items<Registration>, AllocError>
+pub(crate) fn registrations_of(
+    alloc: Global,
+    draft: &Draft,
+    index: &Index,
+) -> Result<Items<Registration>, AllocError>
     requires index { IsIndexOf draft.now index.now }
     requires limits { IsWithinLimits draft.now }
     ensures { IfOk result (λ steps. steps ≡ map (registration_of draft.now) draft.now.steps) }
@@ -166,7 +181,11 @@ pub(crate) fn registrations_of(alloc: Global, draft: &Draft, index: &Index) -> R
 }
 
 /// The relationships, with their tables and columns by number.
-pub(crate) fn relationships_of(alloc: Global, draft: &Draft, index: &Index) -> Result<Items<Relationship>, AllocError>
+pub(crate) fn relationships_of(
+    alloc: Global,
+    draft: &Draft,
+    index: &Index,
+) -> Result<Items<Relationship>, AllocError>
     requires index { IsIndexOf draft.now index.now }
     requires limits { IsWithinLimits draft.now }
     ensures { IfOk result (λ relationships. relationships ≡ map (relationship_of draft.now) draft.now.relationships) }
@@ -225,7 +244,13 @@ fn add_columns(
     }
 }
 
-fn rollup_column(draft: &Draft, index: &Index, name: Text, required: bool, rollup: &DraftRollup) -> Column
+fn rollup_column(
+    draft: &Draft,
+    index: &Index,
+    name: Text,
+    required: bool,
+    rollup: &DraftRollup,
+) -> Column
     requires index { IsIndexOf draft.now index.now }
     requires limits { IsWithinLimits draft.now }
     ensures { result ≡ rollup_column draft.now name required rollup.now }
@@ -250,13 +275,25 @@ fn companion(alloc: Global, name: &Text, ending: &str, kind: Kind) -> Result<Col
 }
 
 #[tactic(auto, unfolding(crate::specs::Accepted::table_of))]
-fn table_of(alloc: Global, draft: &Draft, index: &Index, table: &DraftTable) -> Result<Table, AllocError>
+fn table_of(
+    alloc: Global,
+    draft: &Draft,
+    index: &Index,
+    table: &DraftTable,
+) -> Result<Table, AllocError>
     requires index { IsIndexOf draft.now index.now }
     requires limits { IsWithinLimits draft.now }
     ensures { IfOk result (λ built. built ≡ table_of draft.now table.now) }
 {
     let mut columns = system_columns(alloc, table.user_owned)?;
-    add_each(alloc, draft, index, table, table.columns.as_slice(), &mut columns)?;
+    add_each(
+        alloc,
+        draft,
+        index,
+        table,
+        table.columns.as_slice(),
+        &mut columns,
+    )?;
     Ok(Table {
         name: table.name.copy(alloc)?,
         user_owned: table.user_owned,
@@ -285,7 +322,11 @@ fn add_each(
 }
 
 /// The tables, with their columns numbered.
-pub(crate) fn tables_of(alloc: Global, draft: &Draft, index: &Index) -> Result<Items<Table>, AllocError>
+pub(crate) fn tables_of(
+    alloc: Global,
+    draft: &Draft,
+    index: &Index,
+) -> Result<Items<Table>, AllocError>
     requires index { IsIndexOf draft.now index.now }
     requires limits { IsWithinLimits draft.now }
     ensures { IfOk result (λ tables. tables ≡ map (table_of draft.now) draft.now.tables) }

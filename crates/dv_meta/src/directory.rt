@@ -16,8 +16,11 @@ use dv_value::Id;
 use std::alloc::{AllocError, Global};
 
 const UNITS: usize = 1000;
+
 const USERS: usize = 10_000;
+
 const TEAMS: usize = 5000;
+
 const ROLES: usize = 500;
 
 impl Made<'_> {
@@ -115,7 +118,9 @@ impl Made<'_> {
         requires { AreSeatsOf self.now.opening.now self.now.seats.now }
         ensures { result ≡ gift_refused (directory_of self.now) (team_seat access) roles.now }
     {
-        roles.iter().any(|role| self.refuses_team_role(access, *role))
+        roles
+            .iter()
+            .any(|role| self.refuses_team_role(access, *role))
     }
 
     #[tactic(auto, unfolding(crate::specs::Opening::member_refused))]
@@ -123,7 +128,9 @@ impl Made<'_> {
         requires { AreSeatsOf self.now.opening.now self.now.seats.now }
         ensures { result ≡ member_refused (directory_of self.now) (team_seat access) members.now }
     {
-        members.iter().any(|user| self.refuses_member(access, *user))
+        members
+            .iter()
+            .any(|user| self.refuses_member(access, *user))
     }
 }
 
@@ -307,7 +314,11 @@ fn refused_user(opening: &Opening, seats: &Seats) -> Option<Place>
 
 /// The first item of the opening directory that is refused.
 #[tactic(auto, unfolding(crate::specs::Opening::bad_directory))]
-pub(crate) fn bad_directory(alloc: Global, draft: &Draft, index: &Index) -> Result<Option<Place>, AllocError>
+pub(crate) fn bad_directory(
+    alloc: Global,
+    draft: &Draft,
+    index: &Index,
+) -> Result<Option<Place>, AllocError>
     requires { IsIndexOf draft.now index.now }
     ensures { IfOk result (λ place. place ≡ bad_directory draft.now) }
 {

@@ -60,7 +60,10 @@ fn table_numbers(alloc: Global, tables: &[DraftTable]) -> Result<Numbers, AllocE
     Ok(numbers)
 }
 
-fn relationship_numbers(alloc: Global, relationships: &[DraftRelationship]) -> Result<Numbers, AllocError>
+fn relationship_numbers(
+    alloc: Global,
+    relationships: &[DraftRelationship],
+) -> Result<Numbers, AllocError>
     ensures { IfOk result (λ numbers. Finds numbers (relationship_names relationships.now)) }
 {
     let mut numbers = Numbers::new(alloc);

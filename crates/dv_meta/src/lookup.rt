@@ -44,7 +44,11 @@ pub(crate) fn table_named<'a>(draft: &'a Draft, index: &'a Index, name: &Text) -
 
 /// The relationship of a name.
 #[tactic(auto, unfolding(crate::specs::Named::relationship_named))]
-pub(crate) fn relationship_named<'a>(draft: &'a Draft, index: &'a Index, name: &Text) -> Option<&'a DraftRelationship>
+pub(crate) fn relationship_named<'a>(
+    draft: &'a Draft,
+    index: &'a Index,
+    name: &Text,
+) -> Option<&'a DraftRelationship>
     requires { IsIndexOf draft.now index.now }
     ensures { option_copied result ≡ relationship_named draft.now name.now }
 {
@@ -70,7 +74,12 @@ impl<'a> Found<'a> {
 
 /// The own column of a table, by the names of both.
 #[tactic(auto, unfolding(crate::specs::Named::column_named))]
-pub(crate) fn column_named<'a>(draft: &'a Draft, index: &'a Index, table: &Text, name: &Text) -> Option<&'a DraftColumn>
+pub(crate) fn column_named<'a>(
+    draft: &'a Draft,
+    index: &'a Index,
+    table: &Text,
+    name: &Text,
+) -> Option<&'a DraftColumn>
     requires { IsIndexOf draft.now index.now }
     ensures { option_copied result ≡ column_named draft.now table.now name.now }
 {

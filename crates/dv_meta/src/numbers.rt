@@ -63,7 +63,12 @@ impl Found<'_> {
 
 /// The number of a column of a table, by the names of both.
 #[tactic(auto, unfolding(crate::specs::Accepted::number_in_table))]
-pub(crate) fn number_in_table(draft: &Draft, index: &Index, table: &Text, name: &Text) -> Option<u16>
+pub(crate) fn number_in_table(
+    draft: &Draft,
+    index: &Index,
+    table: &Text,
+    name: &Text,
+) -> Option<u16>
     requires { IsIndexOf draft.now index.now }
     ensures { result ≡ number_in_table draft.now table.now name.now }
 {

@@ -79,7 +79,10 @@ fn clashes(draft: &Draft, index: &Index, r: &DraftRelationship) -> bool
 }
 
 // For each child its first parental relationship.
-fn parental_numbers(alloc: Global, relationships: &[DraftRelationship]) -> Result<Numbers, AllocError>
+fn parental_numbers(
+    alloc: Global,
+    relationships: &[DraftRelationship],
+) -> Result<Numbers, AllocError>
     ensures { IfOk result (λ numbers. (child : Name) → number_in numbers child ≡ parental_of relationships.now child) }
 {
     let mut numbers = Numbers::new(alloc);

@@ -34,7 +34,12 @@ fn found(kind: DefKind, place: Place) -> Fault
 
 /// The first fault that the passes after the walk find.
 #[tactic(auto, unfolding(crate::specs::Faults::first_fault))]
-pub(crate) fn first_fault(alloc: Global, draft: &Draft, index: &Index, steps: usize) -> Result<Option<Fault>, AllocError>
+pub(crate) fn first_fault(
+    alloc: Global,
+    draft: &Draft,
+    index: &Index,
+    steps: usize,
+) -> Result<Option<Fault>, AllocError>
     requires index { IsIndexOf draft.now index.now }
     requires limits { IsWithinLimits draft.now }
     ensures { IfOk result (λ fault. fault ≡ first_fault draft.now steps) }

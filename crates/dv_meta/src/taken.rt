@@ -56,7 +56,12 @@ fn one_stands_before(numbers: &Numbers, place: usize, a: &Text, b: &Text, c: &Te
 }
 
 // Whether one of a column's names has an earlier place.
-fn takes_name(alloc: Global, columns: &Columns, number: usize, column: &DraftColumn) -> Result<bool, AllocError>
+fn takes_name(
+    alloc: Global,
+    columns: &Columns,
+    number: usize,
+    column: &DraftColumn,
+) -> Result<bool, AllocError>
     ensures { IfOk result (λ taken. (names : List Name) → Finds columns.now.all names → taken ≡ list_any (stands_before names number) (names_of column.now)) }
 {
     let name = &column.name;
@@ -72,7 +77,11 @@ fn takes_name(alloc: Global, columns: &Columns, number: usize, column: &DraftCol
 }
 
 // The first column of a table that takes a name.
-fn taken_in(alloc: Global, table: &DraftTable, columns: &Columns) -> Result<Option<usize>, AllocError>
+fn taken_in(
+    alloc: Global,
+    table: &DraftTable,
+    columns: &Columns,
+) -> Result<Option<usize>, AllocError>
     requires finds { FindsColumns columns.now table.now }
     requires few { length table.now.columns ≤ 60 }
     ensures { IfOk result (λ j. j ≡ taken_in table.now) }
@@ -90,7 +99,12 @@ fn taken_in(alloc: Global, table: &DraftTable, columns: &Columns) -> Result<Opti
 
 // The table at a place where its name is taken, or else its first column that takes a name.
 #[tactic(auto, unfolding(crate::specs::NameTaken::taken_at_table))]
-fn taken_at(alloc: Global, draft: &Draft, index: &Index, i: usize) -> Result<Option<Place>, AllocError>
+fn taken_at(
+    alloc: Global,
+    draft: &Draft,
+    index: &Index,
+    i: usize,
+) -> Result<Option<Place>, AllocError>
     requires index { IsIndexOf draft.now index.now }
     requires limits { IsWithinLimits draft.now }
     ensures { IfOk result (λ place. (table : DraftTable) → slice_get draft.now.tables i ≡ Some table → place ≡ taken_at_table draft.now i table) }
@@ -160,7 +174,11 @@ fn taken_in_relationships(draft: &Draft, index: &Index) -> Option<Place>
 
 /// The first place that takes a name.
 #[tactic(auto, unfolding(crate::specs::NameTaken::name_taken))]
-pub(crate) fn name_taken(alloc: Global, draft: &Draft, index: &Index) -> Result<Option<Place>, AllocError>
+pub(crate) fn name_taken(
+    alloc: Global,
+    draft: &Draft,
+    index: &Index,
+) -> Result<Option<Place>, AllocError>
     requires index { IsIndexOf draft.now index.now }
     requires limits { IsWithinLimits draft.now }
     ensures { IfOk result (λ place. place ≡ name_taken draft.now) }

@@ -39,16 +39,22 @@ fn member_count(alloc: Global, team: &OpeningTeam) -> Result<usize, AllocError>
 {
     let members = team.members.as_slice();
     let places = id_places(alloc, members)?;
-    Ok(members
-        .iter()
-        .enumerate()
-        .filter(|(j, user)| !places.has_before(*j, **user))
-        .count())
+    Ok(
+        members
+            .iter()
+            .enumerate()
+            .filter(|(j, user)| !places.has_before(*j, **user))
+            .count(),
+    )
 }
 
 /// The first team that is refused, or that has more members with those before it than there is room for.
 #[tactic(auto, unfolding(crate::specs::Opening::refused_team))]
-pub(crate) fn refused_team(alloc: Global, opening: &Opening, seats: &Seats) -> Result<Option<Place>, AllocError>
+pub(crate) fn refused_team(
+    alloc: Global,
+    opening: &Opening,
+    seats: &Seats,
+) -> Result<Option<Place>, AllocError>
     requires { AreSeatsOf opening.now seats.now }
     ensures { IfOk result (λ place. place ≡ refused_team opening.now) }
 {

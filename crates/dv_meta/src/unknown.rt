@@ -16,7 +16,11 @@ use dv_value::{Names, Text};
 
 /// The table whose rows a rollup takes.
 #[tactic(auto, unfolding(crate::specs::UnknownName::source_of))]
-pub(crate) fn source_of<'a>(draft: &'a Draft, index: &'a Index, rollup: &DraftRollup) -> Option<Found<'a>>
+pub(crate) fn source_of<'a>(
+    draft: &'a Draft,
+    index: &'a Index,
+    rollup: &DraftRollup,
+) -> Option<Found<'a>>
     requires { IsIndexOf draft.now index.now }
     ensures table { option_map (λ found. found.table.now) result ≡ source_of draft.now rollup.now }
     ensures columns { IfSome result (λ found. FindsColumns found.columns.now found.table.now) }
@@ -282,5 +286,7 @@ fn first_unknown_role(draft: &Draft, index: &Index) -> Option<usize>
     ensures { result ≡ position (role_unknown draft.now) draft.now.opening.roles }
 {
     let roles = draft.opening.roles.as_slice();
-    roles.iter().position(|role| role_unknown(draft, index, role))
+    roles
+        .iter()
+        .position(|role| role_unknown(draft, index, role))
 }

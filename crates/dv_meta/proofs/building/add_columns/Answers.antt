@@ -13,13 +13,13 @@ returns-in_ok-push-in-Rollup-3 c =
     let column = c.args.column.now in
     let rollup = c.in-Rollup.rollup in
     let own : c.rollup_column.result ≡ rollup_column draft column.name column.required rollup =
-        c.rollup_column.ensures ∙ ap (λ name. rollup_column draft name column.required rollup) c.in_ok-name.ensures in
+    c.rollup_column.ensures ∙ ap (λ name. rollup_column draft name column.required rollup) c.in_ok-name.ensures in
     let state : c.in_ok-state-in-Rollup.state ≡ companion (state_name column.name) any_whole =
-        c.in_ok-state-in-Rollup.ensures ∙ ap (λ name. companion (state_name name) c.any_whole.result) c.in_ok-name.ensures ∙ ap (λ kind. companion (state_name column.name) kind) c.any_whole.ensures in
+    c.in_ok-state-in-Rollup.ensures ∙ ap (λ name. companion (state_name name) c.any_whole.result) c.in_ok-name.ensures ∙ ap (λ kind. companion (state_name column.name) kind) c.any_whole.ensures in
     let date : c.in_ok-date-in-Rollup.date ≡ companion (date_name column.name) Moment =
-        c.in_ok-date-in-Rollup.ensures ∙ ap (λ name. companion (date_name name) Moment) c.in_ok-name.ensures in
+    c.in_ok-date-in-Rollup.ensures ∙ ap (λ name. companion (date_name name) Moment) c.in_ok-name.ensures in
     let listed : columns_of draft c.args.table.now column ≡ rollup_column draft column.name column.required rollup ∷ companion (state_name column.name) any_whole ∷ companion (date_name column.name) Moment ∷ [] =
-        ap (λ form. columns_by draft c.args.table.now.name column.name column.required form) c.in-Rollup.is in
+    ap (λ form. columns_by draft c.args.table.now.name column.name column.required form) c.in-Rollup.is in
     three_more c.args.columns.now c.push-in-Rollup.new.self c.push-in-Rollup-2.new.self c.push-in-Rollup-3.new.self (columns_of draft c.args.table.now column)
     c.rollup_column.result c.in_ok-state-in-Rollup.state c.in_ok-date-in-Rollup.date
     (rollup_column draft column.name column.required rollup) (companion (state_name column.name) any_whole) (companion (date_name column.name) Moment)

@@ -1,4 +1,4 @@
-use Rattle.std.proofs.Common.{◌≡◌, ◌≤◌, Bool, true, false, List, length, ap, ◌∙◌, sym, subst, arith, map, flat_map, ◌++◌}
+use Rattle.std.proofs.Common.{◌≤◌, Bool, true, false, List, length, ap, ◌∙◌, sym, subst, arith, map, flat_map, ◌++◌}
 use Rattle.std.proofs.lemmas.List.{length-map}
 use Rattle.dv_meta.specs.Columns.{column_names, names_of, system_columns}
 use Rattle.dv_meta.specs.Index.{Finds}

@@ -1,4 +1,4 @@
-use Rattle.std.proofs.Common.{take, map}
+use Rattle.std.proofs.Common.{take}
 use Rattle.dv_meta.proofs.IndexLaws.{FindsLookups}
 use Rattle.dv_meta.proofs.index.lookup_numbers.Given as goal
 

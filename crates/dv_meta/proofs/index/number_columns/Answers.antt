@@ -18,10 +18,10 @@ loop-column-preserved c =
     let counted = c.loop-column.invariant.counted in
     let next = c.in_ok-next.ensures.next in
     record {
-        few = omega (arith, most, next, c.loop-column.invariant.few);
-        counted = omega (arith, longer, next, counted);
-        finds = λ names count found.
-            let P : List Name → Type 0 = Finds c.number_column.new.numbers in
-            let here : length (names ++ so_far) ≡ c.loop-column.next = omega (arith, length-append names so_far, counted, count) in
-            subst P (flat_map-take-more names_of names xs i x (omega arith) c.column-item.is) (c.in_ok-next.ensures.finds (names ++ so_far) here (c.loop-column.invariant.finds names count found));
+      few = omega (arith, most, next, c.loop-column.invariant.few);
+      counted = omega (arith, longer, next, counted);
+      finds = λ names count found.
+          let P : List Name → Type 0 = Finds c.number_column.new.numbers in
+          let here : length (names ++ so_far) ≡ c.loop-column.next = omega (arith, length-append names so_far, counted, count) in
+          subst P (flat_map-take-more names_of names xs i x (omega arith) c.column-item.is) (c.in_ok-next.ensures.finds (names ++ so_far) here (c.loop-column.invariant.finds names count found));
     }

@@ -1,4 +1,4 @@
-use Rattle.std.proofs.Common.{take, map}
+use Rattle.std.proofs.Common.{take}
 use Rattle.dv_meta.specs.Index.{Finds}
 use Rattle.dv_meta.specs.Named.{relationship_names}
 use Rattle.dv_meta.proofs.index.relationship_numbers.Given as goal

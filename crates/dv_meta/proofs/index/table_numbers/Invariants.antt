@@ -1,4 +1,4 @@
-use Rattle.std.proofs.Common.{take, map}
+use Rattle.std.proofs.Common.{take}
 use Rattle.dv_meta.specs.Index.{Finds}
 use Rattle.dv_meta.specs.Named.{table_names}
 use Rattle.dv_meta.proofs.index.table_numbers.Given as goal

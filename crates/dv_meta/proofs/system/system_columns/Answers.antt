@@ -1,4 +1,4 @@
-use Rattle.std.proofs.Common.{refl, append_assoc, ap, ◌∙◌}
+use Rattle.std.proofs.Common.{refl, append_assoc}
 use Rattle.std.specs.Str.{chars}
 use Rattle.dv_meta.specs.Columns.{system_columns}
 use Rattle.dv_meta.proofs.system.system_columns.Goals as goal

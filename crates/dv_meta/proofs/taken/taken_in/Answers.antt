@@ -1,7 +1,6 @@
 use Rattle.std.proofs.Common.{◌≡◌, ◌<◌, length, get_or, sym, ap, ◌∙◌, arith}
 use Rattle.dv_meta.specs.Columns.{column_names}
 use Rattle.dv_meta.proofs.FirstLaws.{first_from-more, first_from-found, first_from-end}
-use Rattle.dv_meta.proofs.IndexLaws.{length-names_by}
 use Rattle.dv_meta.proofs.TakenLaws.{takes_at, takes_at-true, takes_at-false, takes_name-at, taken_in-is, column_number-first, column_number-next, length-system_names}
 use Rattle.dv_meta.proofs.taken.taken_in.Goals as goal
 
@@ -9,9 +8,9 @@ pub loop-j-init : goal.loop-j-init
 loop-j-init c =
     let t = c.args.table.now in
     record {
-        few = omega (arith, length-system_names t.user_owned, c.system_count-number.ensures);
-        counted = c.system_count-number.ensures ∙ sym (column_number-first t);
-        first = taken_in-is t;
+      few = omega (arith, length-system_names t.user_owned, c.system_count-number.ensures);
+      counted = c.system_count-number.ensures ∙ sym (column_number-first t);
+      first = taken_in-is t;
     }
 
 pub returns-then-branch : goal.returns-then-branch
@@ -32,9 +31,9 @@ loop-j-preserved c =
     let tested = takes_name-at t c.loop-j.j c.loop-j.number x c.in_ok-takes_name.field-0 c.loop-j.invariant.counted (c.in_ok-takes_name.ensures (column_names t) c.requires.finds.all) in
     let count = c.names_count-number.ensures.count x.name in
     record {
-        few = omega (arith, c.loop-j.invariant.few, c.names_count-number.ensures.few);
-        counted = omega (arith, c.loop-j.invariant.counted, count, column_number-next t c.loop-j.j x within read);
-        first = c.loop-j.invariant.first ∙ first_from-more (takes_at t) t.columns c.loop-j.j x within read (takes_at-false t c.loop-j.j x (tested ∙ c.if-branch.false));
+      few = omega (arith, c.loop-j.invariant.few, c.names_count-number.ensures.few);
+      counted = omega (arith, c.loop-j.invariant.counted, count, column_number-next t c.loop-j.j x within read);
+      first = c.loop-j.invariant.first ∙ first_from-more (takes_at t) t.columns c.loop-j.j x within read (takes_at-false t c.loop-j.j x (tested ∙ c.if-branch.false));
     }
 
 pub returns : goal.returns

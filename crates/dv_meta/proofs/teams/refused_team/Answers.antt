@@ -36,8 +36,8 @@ loop-k-preserved c =
     let more = sum_by-take-more o.teams k team within read in
     let fits = overfull-no o k (omega (arith, c.loop-k.invariant.room, more, c.in_ok-count.ensures)) in
     record {
-        room = omega (arith, c.loop-k.invariant.room, more, c.in_ok-count.ensures);
-        first = c.loop-k.invariant.first ∙ first_from-more (refused_at o) o.teams k team within read (refused_at-none o k team (sym c.team_alone_refused.ensures ∙ c.if-team_alone_refused.false) fits);
+      room = omega (arith, c.loop-k.invariant.room, more, c.in_ok-count.ensures);
+      first = c.loop-k.invariant.first ∙ first_from-more (refused_at o) o.teams k team within read (refused_at-none o k team (sym c.team_alone_refused.ensures ∙ c.if-team_alone_refused.false) fits);
     }
 
 pub returns : goal.returns
