@@ -3,9 +3,8 @@
 
 use dv_base::{StdSink, StdSource};
 use dv_service::{Status, top};
-use std::env;
-use std::io;
 use std::process::ExitCode;
+use std::{env, io};
 
 // The words after the program's name.
 fn words_of(rt: &HostRuntime) -> io::Result<Vec<String>> {
