@@ -312,6 +312,26 @@ fn the_row_after_the_last_is_refused(rt: HostRuntime) -> Result<(), Fail> {
 }
 
 #[test]
+fn a_thousand_rows_are_shown_in_the_order_of_their_ids(rt: HostRuntime) -> Result<(), Fail> {
+    let alloc = rt.alloc();
+    let mut input = Vec::from_slice(alloc, DEFINITION)?;
+    for _ in 0..1_000 {
+        input.extend_from_slice(CREATE)?;
+    }
+    input.extend_from_slice(QUERY)?;
+    let (code, output) = run_over(alloc, input.as_slice(), 4096)?;
+    assert_eq!(rt; code, 0);
+    let first: &[u8] =
+        b"\"rows\":[{\"id\":\"00000000-0000-0000-0000-000000000001\",\"name\":\"Ann\"},{\"id\":\"00000000-0000-0000-0000-000000000002\",\"name\":\"Ann\"},";
+    let last: &[u8] =
+        b",{\"id\":\"00000000-0000-0000-0000-0000000003e8\",\"name\":\"Ann\"}],\"total\":null}}\n";
+    let text = str::from_utf8(output.as_slice()).ok().ok_or("text")?;
+    assert!(rt; text.contains(str::from_utf8(first).ok().ok_or("text")?));
+    assert!(rt; output.as_slice().ends_with(last));
+    Ok(())
+}
+
+#[test]
 fn a_first_line_that_is_no_definition_is_refused(rt: HostRuntime) -> Result<(), Fail> {
     let alloc = rt.alloc();
     let refused: &[u8] = b"{\"refused\":{\"kind\":\"NotBuilt\",\"nr\":1,\"place\":\"\"}}\n";
