@@ -4,6 +4,7 @@ pub mod Each
 pub mod Endings
 pub mod Held
 pub mod Inputs
+pub mod Refused
 pub mod Results
 pub mod Runs
 pub mod Selecting

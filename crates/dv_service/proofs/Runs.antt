@@ -4,7 +4,7 @@ use Rattle.std.specs.Fmt.{digits}
 use Rattle.std.proofs.lemmas.List.{append-nil}
 use Rattle.serde_json.proofs.OnLiterals.{serde_json_on_literals}
 use Rattle.dv_base.proofs.KnownBytesLaws.{append_known-nil, append_known-append}
-use Rattle.dv_value.specs.Refusals.{refusal_data}
+use Rattle.dv_value.specs.Refusals.{refusal_members, details_of, number_of}
 use Rattle.dv_value.specs.declared.refusal.Refusal.TheVariants.{OutOfMemory}
 use Rattle.dv_store.specs.Rows.{Kept, nothing}
 use Rattle.dv_service.specs.Replies.{reply_line, reply_data, printed, bad_definition}
@@ -17,7 +17,7 @@ use Rattle.dv_service.specs.declared.reply.Reply.TheVariants.{Opened, Refused}
 use Rattle.dv_service.specs.declared.session.TheConstants.{MEMORY_LINE, OPENED_LINE, REFUSED_LINE}
 
 pub reply_line-memory : reply_line (Refused OutOfMemory) ≡ MEMORY_LINE.now
-unfolding reply_line reply_data refusal_data serde_json_on_literals digits
+unfolding reply_line reply_data refusal_members details_of number_of serde_json_on_literals digits
 reply_line-memory = refl
 
 pub reply_line-opened : reply_line (Opened 1) ≡ OPENED_LINE.now
@@ -25,7 +25,7 @@ unfolding reply_line reply_data serde_json_on_literals digits
 reply_line-opened = refl
 
 pub reply_line-refused : reply_line bad_definition ≡ REFUSED_LINE.now
-unfolding reply_line reply_data refusal_data serde_json_on_literals digits
+unfolding reply_line reply_data refusal_members details_of number_of serde_json_on_literals digits
 reply_line-refused = refl
 
 pub begins : (definition : Definition) (kept : Kept) → kept ≡ nothing → record { definition = definition; store = kept } ≡ begin definition

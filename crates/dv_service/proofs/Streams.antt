@@ -5,7 +5,7 @@ use Rattle.std.proofs.lemmas.List.{append-nil, take_more, take_all, take-append-
 use Rattle.dv_service.specs.Lines.{line_feed, has_content, ended_lines, open_line, lines_of}
 use Rattle.dv_service.specs.Definitions.{opening_of}
 use Rattle.dv_service.specs.Replies.{reply_line, bad_definition}
-use Rattle.dv_service.specs.Outcome.{Answered, CutIn, IsUnopened}
+use Rattle.dv_service.specs.Outcome.{Answered, CutIn}
 use Rattle.dv_service.specs.Sessions.{IsHeld, Stands, IsRefused}
 use Rattle.dv_service.specs.declared.org.Org.{Org}
 use Rattle.dv_service.specs.declared.session.Session.{Session}
@@ -53,10 +53,8 @@ pub IsRefused-feed : (taken line : List ℕ) (b : ℕ) (before now : Option (Lis
     → now ≡ append_known before (reply_line bad_definition) → IsRefused (taken ++ b ∷ []) before now
 IsRefused-feed taken line b before now feed only bad wrote = record {
   line = line;
-  first = λ more.
-      let later = ended_lines-append (taken ++ line_feed ∷ []) more in
-      let rest = filter has_content (open_line ((taken ++ line_feed ∷ []) ++ more) ∷ []) in
-      (later.0 ++ rest, rw (feed, later.1, ended_lines-feed taken, only) refl);
+  others = [];
+  first = rw feed (ended_lines-feed taken ∙ only);
   bad = bad;
   wrote = wrote;
 }
@@ -84,14 +82,15 @@ rest_of taken piece i h = rw (next_byte taken piece i h, append_assoc, take-appe
 -- a refusal within a piece stands for the piece
 pub IsRefused-within : (taken piece : List ℕ) (i : ℕ) (before now : Option (List ℕ)) → i < length piece
     → IsRefused ((taken ++ take i piece) ++ get_or piece i 0 ∷ []) before now → IsRefused (taken ++ piece) before now
-IsRefused-within taken piece i before now h refused = record {
-  line = refused.line;
-  first = λ more. subst (λ x. (others : List (List ℕ)) × (lines_of x ≡ refused.line ∷ others))
-      (sym (append_assoc ((taken ++ take i piece) ++ get_or piece i 0 ∷ []) (drop (i + 1) piece) more) ∙ ap (λ x. x ++ more) (rest_of taken piece i h))
-      (refused.first (drop (i + 1) piece ++ more));
-  bad = refused.bad;
-  wrote = refused.wrote;
-}
+IsRefused-within taken piece i before now h refused =
+    let grown = ended_lines-append ((taken ++ take i piece) ++ get_or piece i 0 ∷ []) (drop (i + 1) piece) in
+    record {
+      line = refused.line;
+      others = refused.others ++ grown.0;
+      first = sym (ap ended_lines (rest_of taken piece i h)) ∙ grown.1 ∙ ap (λ lines. lines ++ grown.0) refused.first;
+      bad = refused.bad;
+      wrote = refused.wrote;
+    }
 
 -- a cut stays one when more lines end
 pub CutIn-append : (lines more : List (List ℕ)) (before now : Option (List ℕ)) → CutIn lines before now → CutIn (lines ++ more) before now
@@ -116,11 +115,3 @@ CutIn-within taken piece i before now h cut =
     let more : CutIn (ended_lines (((taken ++ take i piece) ++ get_or piece i 0 ∷ []) ++ drop (i + 1) piece)) before now
     = rw grown.1 (CutIn-append _ grown.0 before now cut) in
     subst (λ x. CutIn (ended_lines x) before now) (rest_of taken piece i h) more
-
--- an input without a line, and one whose only line is refused
-pub IsUnopened-none : (lines : List (List ℕ)) (size : ℕ) (left before now : Option (List ℕ)) → lines ≡ [] → IsUnopened [] size left before now → IsUnopened lines size left before now
-IsUnopened-none lines size left before now none unopened = rw none unopened
-
-pub IsUnopened-line : (lines others : List (List ℕ)) (line : List ℕ) (size : ℕ) (left before now : Option (List ℕ)) → lines ≡ line ∷ others → opening_of line ≡ None
-    → now ≡ append_known before (reply_line bad_definition) → IsUnopened lines size left before now
-IsUnopened-line lines others line size left before now only bad wrote = rw only (bad, wrote)

@@ -1,7 +1,7 @@
 -- What a run has done when it ends, by its status: which lines were answered, and what was written.
 -- `left` is what the source still has, `written` what the sink has taken; both are said where the object tells them.
 use Rattle.std.specs.declared.alloc.Global.{Global}
-use Rattle.std.specs.Prelude.{map, codes, String, string_bytes, ◌≡◌, ◌⊎◌, ◌<◌, ℕ, List, [], ◌∷◌, ◌++◌, length, Option, None, Some}
+use Rattle.std.specs.Prelude.{map, codes, String, string_bytes, ◌≡◌, ◌⊎◌, ◌<◌, ◌≤◌, ◌^◌, ℕ, List, [], ◌∷◌, ◌++◌, length, Option, None, Some}
 use Rattle.std.specs.Io.KnownBytes.{append_known, prepend_known, IsAtEnd}
 use Rattle.dv_base.specs.Sink.{IsCut}
 use Rattle.dv_service.specs.Lines.{ended_lines, lines_of}
@@ -11,7 +11,6 @@ use Rattle.dv_service.specs.Machine.{Run, Writes}
 use Rattle.dv_service.specs.declared.definition.Definition.{Definition}
 use Rattle.dv_service.specs.declared.org.Org.{Org}
 use Rattle.dv_service.specs.declared.reply.Reply.{Reply}
-use Rattle.dv_service.specs.declared.run.TheConstants.{INPUT_LIMIT}
 
 -- the words are `run` alone
 abbrev pub AreRun : List (String Global) → Type 0
@@ -28,15 +27,36 @@ pub record RanToEnd (left left_now written written_now : Option (List ℕ)) : Ty
   pub input : List ℕ
   pub took : left ≡ prepend_known input left_now
   pub at_end : IsAtEnd left_now
-  pub short : length input < INPUT_LIMIT
+  pub short : length input < 2 ^ 40
   pub org : Org
   pub answered : Answered (lines_of input) (Some org) written written_now
 
--- Status 3, over the lines of the whole input and its length: there is no line, and nothing was written; or the first
--- is no definition, and its refusal was written.
-abbrev pub IsUnopened : List (List ℕ) → ℕ → Option (List ℕ) → Option (List ℕ) → Option (List ℕ) → Type 0
-IsUnopened [] size left_now written written_now = (size < INPUT_LIMIT) × IsAtEnd left_now × (written_now ≡ written)
-IsUnopened (line ∷ lines) size left_now written written_now = (opening_of line ≡ None) × (written_now ≡ append_known written (reply_line bad_definition))
+-- the lines that ended in these bytes; the end of the input ends the last line too
+abbrev pub HaveEnded : List (List ℕ) → List ℕ → Option (List ℕ) → Type 0
+HaveEnded lines taken left_now = ((lines ≡ ended_lines taken) × (length taken ≤ 2 ^ 40)) ⊎ ((lines ≡ lines_of taken) × IsAtEnd left_now × (length taken < 2 ^ 40))
+
+-- The input was read to its end and has no line, and nothing was written.
+pub record EndsUnopened (taken : List ℕ) (left_now written written_now : Option (List ℕ)) : Type 0 where
+  pub none : lines_of taken ≡ []
+  pub at_end : IsAtEnd left_now
+  pub short : length taken < 2 ^ 40
+  pub wrote : written_now ≡ written
+
+-- The first line that ended is no definition, and its refusal was written.
+pub record RefusesFirst (taken : List ℕ) (left_now written written_now : Option (List ℕ)) : Type 0 where
+  pub lines : List (List ℕ)
+  pub ended : HaveEnded lines taken left_now
+  pub line : List ℕ
+  pub others : List (List ℕ)
+  pub parts : lines ≡ line ∷ others
+  pub bad : opening_of line ≡ None
+  pub wrote : written_now ≡ append_known written (reply_line bad_definition)
+
+-- Status 3: there is no definition line, or the first line isn't accepted.
+pub record NotOpened (left left_now written written_now : Option (List ℕ)) : Type 0 where
+  pub taken : List ℕ
+  pub took : left ≡ prepend_known taken left_now
+  pub how : EndsUnopened taken left_now written written_now ⊎ RefusesFirst taken left_now written written_now
 
 -- Statuses 5 and 10: some bytes were taken, and the lines that ended in them were answered.
 pub record StoppedBetween (left left_now written written_now : Option (List ℕ)) : Type 0 where
@@ -57,10 +77,6 @@ pub record CutIn (lines : List (List ℕ)) (written written_now : Option (List �
   pub text : List ℕ
   pub writes : Writes org line text
   pub cut : IsCut text middle written_now
-
--- the lines that ended in these bytes; the end of the input ends the last line too
-abbrev pub HaveEnded : List (List ℕ) → List ℕ → Option (List ℕ) → Type 0
-HaveEnded lines taken left_now = (lines ≡ ended_lines taken) ⊎ ((lines ≡ lines_of taken) × IsAtEnd left_now)
 
 -- Status 6: some bytes were taken, and of the lines that ended in them one was cut short, and no later one answered.
 pub record CutShort (left left_now written written_now : Option (List ℕ)) : Type 0 where

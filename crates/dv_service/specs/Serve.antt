@@ -16,7 +16,6 @@ use Rattle.dv_store.specs.Rows.{Kept, with_row}
 use Rattle.dv_store.specs.declared.row.Row.{Row}
 use Rattle.dv_service.specs.Lines.{within_limit}
 use Rattle.dv_service.specs.Requests.{request_of}
-use Rattle.dv_service.specs.declared.serving.TheConstants.{ROW_LIMIT}
 use Rattle.dv_service.specs.declared.definition.Column.{Column}
 use Rattle.dv_service.specs.declared.definition.Definition.{Definition}
 use Rattle.dv_service.specs.declared.org.Org.{Org}
@@ -48,9 +47,9 @@ unfoldable pub is_for : List Column → Message → Bool
 is_for columns (Create values) = list_all (takes columns) values
 is_for columns (Query names) = list_all (is_column columns) names
 
--- a creation that would make one row more than there may be
+-- a creation that would make row 5,001
 unfoldable pub is_past_limit : List Row → Message → Bool
-is_past_limit rows (Create values) = nat_le ROW_LIMIT (length rows)
+is_past_limit rows (Create values) = nat_le 5000 (length rows)
 is_past_limit rows (Query names) = false
 
 -- whether the service is built as far as this request wants

@@ -26,10 +26,11 @@ pub record Stands (session : Session) (taken : List ℕ) (before now : Option (L
   pub line : IsHeld session.line (open_line taken)
   pub answered : Answered (ended_lines taken) session.org before now
 
--- However the input goes on, its first line is no definition, and the refusal of that line was written.
+-- The first line that ended in the bytes is no definition, and its refusal was written.
 pub record IsRefused (bytes : List ℕ) (before now : Option (List ℕ)) : Type 0 where
   pub line : List ℕ
-  pub first : (more : List ℕ) → (others : List (List ℕ)) × (lines_of (bytes ++ more) ≡ line ∷ others)
+  pub others : List (List ℕ)
+  pub first : ended_lines bytes ≡ line ∷ others
   pub bad : opening_of line ≡ None
   pub wrote : now ≡ append_known before (reply_line bad_definition)
 

@@ -6,6 +6,7 @@
 #![tactic(auto)]
 
 mod definition;
+mod laws;
 mod line_buffer;
 mod members;
 mod naming;
@@ -25,6 +26,7 @@ mod status;
 mod tests;
 
 pub use definition::{Column, Definition};
+pub use laws::a_refused_line_changes_nothing;
 pub use org::Org;
 pub use reply::{Cell, Reply, Shown};
 pub use request::{Message, Request};

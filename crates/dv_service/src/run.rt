@@ -1,9 +1,11 @@
 //! A run: the input in pieces, until it ends or fails.
-ghost use Rattle.std.specs.Prelude.{◌≡◌, ◌≤◌, ◌<◌, ◌++◌, ℕ, List, Option, IfSome, length, []};
-ghost use Rattle.std.specs.Io.KnownBytes.{prepend_known, IsAtEnd};
+ghost use Rattle.std.specs.Prelude.{◌≡◌, ◌≢◌, ◌≤◌, ◌<◌, ◌^◌, ◌⊎◌, ◌++◌, ◌∷◌, [], ℕ, List, Option, Some, None, length};
+ghost use Rattle.std.specs.Io.KnownBytes.{append_known, prepend_known, IsAtEnd};
 ghost use Rattle.dv_base.specs.Faults.{Rose};
 ghost use Rattle.dv_service.specs.Lines.{ended_lines, lines_of};
-ghost use Rattle.dv_service.specs.Outcome.{RanToEnd, IsUnopened, StoppedBetween, CutIn, CutShort, Answered};
+ghost use Rattle.dv_service.specs.Outcome.{RanToEnd, NotOpened, StoppedBetween, CutIn, CutShort, Answered};
+ghost use Rattle.dv_service.specs.Definitions.{opening_of};
+ghost use Rattle.dv_service.specs.Replies.{reply_line, bad_definition};
 ghost use Rattle.dv_service.specs.Sessions.{IsHeld, Stands, IsRefused};
 ghost use Rattle.dv_service.specs.declared.org.Org.{Org as Organisation};
 
@@ -46,10 +48,10 @@ fn take_turn<S: Source, W: Sink>(
         → result ≡ Turn.ReadFault → (S.left input.new ≡ S.left input.old) × Stands session.new taken before (W.written output.new) }
     ensures refused { (taken : List ℕ) (before : Option (List ℕ)) → Stands session.old taken before (W.written output.old)
         → result ≡ Turn.Stopped Stop.NotOpened → (piece : List ℕ) × (S.left input.old ≡ prepend_known piece (S.left input.new))
-        × IsRefused (taken ++ piece) before (W.written output.new) }
+        × (length piece ≤ length buffer.old) × IsRefused (taken ++ piece) before (W.written output.new) }
     ensures cut { (taken : List ℕ) (before : Option (List ℕ)) → Stands session.old taken before (W.written output.old)
         → result ≡ Turn.Stopped Stop.WriteFault → (piece : List ℕ) × (S.left input.old ≡ prepend_known piece (S.left input.new))
-        × CutIn (ended_lines (taken ++ piece)) before (W.written output.new) }
+        × (length piece ≤ length buffer.old) × CutIn (ended_lines (taken ++ piece)) before (W.written output.new) }
     ensures untouched { (taken : List ℕ) (before : Option (List ℕ)) → Stands session.old taken before (W.written output.old)
         → result ≡ Turn.Stopped Stop.OutOfMemory → W.written output.new ≡ before }
     ensures read_later { S.read_faults input.old ≤ S.read_faults input.new }
@@ -76,8 +78,9 @@ fn take_turn<S: Source, W: Sink>(
 fn finish<W: Sink>(session: &mut Session, output: &mut W) -> Ending
     ensures done { (taken : List ℕ) (before : Option (List ℕ)) → Stands session.old taken before (W.written output.old)
         → result ≡ Ending.Done → (org : Organisation) × Answered (lines_of taken) (Some org) before (W.written output.new) }
-    ensures not_opened { (taken : List ℕ) (before left : Option (List ℕ)) → Stands session.old taken before (W.written output.old)
-        → result ≡ Ending.NotOpened → (size : ℕ) → size < INPUT_LIMIT → IsAtEnd left → IsUnopened (lines_of taken) size left before (W.written output.new) }
+    ensures not_opened { (taken : List ℕ) (before : Option (List ℕ)) → Stands session.old taken before (W.written output.old)
+        → result ≡ Ending.NotOpened → ((lines_of taken ≡ []) × (W.written output.new ≡ before))
+        ⊎ ((line : List ℕ) × (lines_of taken ≡ line ∷ []) × (opening_of line ≡ None) × (W.written output.new ≡ append_known before (reply_line bad_definition))) }
     ensures cut { (taken : List ℕ) (before : Option (List ℕ)) → Stands session.old taken before (W.written output.old)
         → result ≡ Ending.WriteFault → CutIn (lines_of taken) before (W.written output.new) }
     ensures untouched { (taken : List ℕ) (before : Option (List ℕ)) → Stands session.old taken before (W.written output.old)
@@ -96,9 +99,6 @@ fn finish<W: Sink>(session: &mut Session, output: &mut W) -> Ending
     }
 }
 
-ghost use Rattle.std.specs.Prelude.{◌≢◌, Some};
-ghost use Rattle.dv_service.specs.declared.run.TheConstants.{INPUT_LIMIT as LIMIT};
-
 // Reads the input to its end, piece by piece into the buffer, and answers its lines.
 fn read_lines<S: Source, W: Sink>(
     alloc: Global,
@@ -111,13 +111,13 @@ fn read_lines<S: Source, W: Sink>(
     requires room { 0 < length buffer.old }
     ensures done { result ≡ Ending.Done
         → RanToEnd (S.left input.old) (S.left input.new) (W.written output.old) (W.written output.new) }
-    ensures not_opened { result ≡ Ending.NotOpened → IfSome (S.left input.old) (λ bytes.
-        IsUnopened (lines_of bytes) (length bytes) (S.left input.new) (W.written output.old) (W.written output.new)) }
+    ensures not_opened { result ≡ Ending.NotOpened
+        → NotOpened (S.left input.old) (S.left input.new) (W.written output.old) (W.written output.new) }
     ensures read { result ≡ Ending.ReadFault → Rose (S.read_faults input.old) (S.read_faults input.new) }
     ensures read_stopped { result ≡ Ending.ReadFault
-        → (stopped : StoppedBetween (S.left input.old) (S.left input.new) (W.written output.old) (W.written output.new)) × (length stopped.taken < LIMIT) }
+        → (stopped : StoppedBetween (S.left input.old) (S.left input.new) (W.written output.old) (W.written output.new)) × (length stopped.taken < 2 ^ 40) }
     ensures limit_stopped { result ≡ Ending.InputLimit
-        → (stopped : StoppedBetween (S.left input.old) (S.left input.new) (W.written output.old) (W.written output.new)) × (length stopped.taken ≡ LIMIT) }
+        → (stopped : StoppedBetween (S.left input.old) (S.left input.new) (W.written output.old) (W.written output.new)) × (length stopped.taken ≡ 2 ^ 40) }
     ensures write { result ≡ Ending.WriteFault → Rose (W.write_faults output.old) (W.write_faults output.new) }
     ensures cut { result ≡ Ending.WriteFault
         → CutShort (S.left input.old) (S.left input.new) (W.written output.old) (W.written output.new) }
@@ -145,13 +145,13 @@ fn read_lines<S: Source, W: Sink>(
 pub fn run<S: Source, W: Sink>(alloc: Global, input: &mut S, output: &mut W) -> Ending
     ensures done { result ≡ Ending.Done
         → RanToEnd (S.left input.old) (S.left input.new) (W.written output.old) (W.written output.new) }
-    ensures not_opened { result ≡ Ending.NotOpened → IfSome (S.left input.old) (λ bytes.
-        IsUnopened (lines_of bytes) (length bytes) (S.left input.new) (W.written output.old) (W.written output.new)) }
+    ensures not_opened { result ≡ Ending.NotOpened
+        → NotOpened (S.left input.old) (S.left input.new) (W.written output.old) (W.written output.new) }
     ensures read { result ≡ Ending.ReadFault → Rose (S.read_faults input.old) (S.read_faults input.new) }
     ensures read_stopped { result ≡ Ending.ReadFault
-        → (stopped : StoppedBetween (S.left input.old) (S.left input.new) (W.written output.old) (W.written output.new)) × (length stopped.taken < LIMIT) }
+        → (stopped : StoppedBetween (S.left input.old) (S.left input.new) (W.written output.old) (W.written output.new)) × (length stopped.taken < 2 ^ 40) }
     ensures limit_stopped { result ≡ Ending.InputLimit
-        → (stopped : StoppedBetween (S.left input.old) (S.left input.new) (W.written output.old) (W.written output.new)) × (length stopped.taken ≡ LIMIT) }
+        → (stopped : StoppedBetween (S.left input.old) (S.left input.new) (W.written output.old) (W.written output.new)) × (length stopped.taken ≡ 2 ^ 40) }
     ensures write { result ≡ Ending.WriteFault → Rose (W.write_faults output.old) (W.write_faults output.new) }
     ensures cut { result ≡ Ending.WriteFault
         → CutShort (S.left input.old) (S.left input.new) (W.written output.old) (W.written output.new) }

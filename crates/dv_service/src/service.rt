@@ -1,8 +1,9 @@
 //! The public call: the words of the command line, the input and the output.
-ghost use Rattle.std.specs.Prelude.{◌≡◌, ◌↔◌, ◌<◌, ◌⊎◌, ◌^◌, IsTrue, IfSome, length};
+ghost use Rattle.std.specs.Prelude.{◌≡◌, ◌↔◌, ◌<◌, ◌⊎◌, ◌^◌, IsTrue, IfSome, length, true};
 ghost use Rattle.dv_base.specs.Faults.{Rose};
 ghost use Rattle.dv_service.specs.Lines.{lines_of};
-ghost use Rattle.dv_service.specs.Outcome.{AreRun, RanToEnd, IsUnopened, StoppedBetween, CutShort, IsOpened};
+ghost use Rattle.dv_service.specs.Outcome.{AreRun, RanToEnd, NotOpened, StoppedBetween, CutShort, IsOpened};
+ghost use Rattle.dv_service.specs.Statuses.{is_status};
 
 use crate::run::run;
 use crate::status::Status;
@@ -19,7 +20,8 @@ fn is_run(words: &[String]) -> bool
 /// Runs the service: reads lines from `input` and writes a line to `output` for each.
 ///
 /// `words` are the words after the program's name. The first line is the organisation's definition; the organisation
-/// stands in memory for this run alone. A line is answered as soon as it has ended, before more input is asked for.
+/// stands in memory for this run alone. No clause says that a line is answered before more input is asked for; it is,
+/// as soon as the line has ended.
 pub fn top<S: Source, W: Sink>(
     alloc: Global,
     words: &[String],
@@ -36,8 +38,8 @@ pub fn top<S: Source, W: Sink>(
     ensures bad_words_wrote { result.0 ≡ 2 → W.written output.new ≡ W.written output.old }
 
     // There is no definition line, or the first line isn't accepted.
-    ensures not_opened { result.0 ≡ 3 → IfSome (S.left input.old) (λ bytes.
-        IsUnopened (lines_of bytes) (length bytes) (S.left input.new) (W.written output.old) (W.written output.new)) }
+    ensures not_opened { result.0 ≡ 3
+        → NotOpened (S.left input.old) (S.left input.new) (W.written output.old) (W.written output.new) }
 
     // The input failed: the lines that ended in the bytes taken were answered.
     ensures read_fault { result.0 ≡ 5 → Rose (S.read_faults input.old) (S.read_faults input.new) }
@@ -49,18 +51,24 @@ pub fn top<S: Source, W: Sink>(
     ensures cut_short { result.0 ≡ 6
         → CutShort (S.left input.old) (S.left input.new) (W.written output.old) (W.written output.new) }
 
-    // There was no memory to begin.
+    // Nothing was written: want of memory before anything was answered.
     ensures out_of_memory { result.0 ≡ 9 → W.written output.new ≡ W.written output.old }
 
     // As much input was taken as a run takes.
     ensures input_limit { result.0 ≡ 10
         → (stopped : StoppedBetween (S.left input.old) (S.left input.new) (W.written output.old) (W.written output.new)) × (length stopped.taken ≡ 2 ^ 40) }
 
-    // An input below the limit whose first line is a definition is read to its end, unless an end fails or memory is
-    // wanting.
+    // There is no other status.
+    ensures known { is_status result.0 ≡ true }
+
+    // An input below the limit is read to its end where its first line is a definition, and is refused where it has
+    // none, unless an end fails or memory is wanting.
     ensures complete { AreRun words.now → ¬ Rose (S.read_faults input.old) (S.read_faults input.new)
         → ¬ Rose (W.write_faults output.old) (W.write_faults output.new)
         → IfSome (S.left input.old) (λ bytes. length bytes < 2 ^ 40 → IsOpened (lines_of bytes) → (result.0 ≡ 0) ⊎ (result.0 ≡ 9)) }
+    ensures refuses { AreRun words.now → ¬ Rose (S.read_faults input.old) (S.read_faults input.new)
+        → ¬ Rose (W.write_faults output.old) (W.write_faults output.new)
+        → IfSome (S.left input.old) (λ bytes. length bytes < 2 ^ 40 → ¬ (IsOpened (lines_of bytes)) → (result.0 ≡ 3) ⊎ (result.0 ≡ 9)) }
 {
     if is_run(words) {
         run(alloc, input, output).status()

@@ -5,6 +5,10 @@ use std::alloc::Global;
 use std::test::Fail;
 
 const DEFINITION: &[u8] =
+    b"{\"root\":\"00000000-0000-0000-0000-000000000064\",\"admin\":\"00000000-0000-0000-0000-000000000065\",\"tables\":[{\"name\":\"account\",\"owned\":\"user\",\"columns\":[{\"name\":\"name\",\"type\":\"text\",\"max\":100}]}]}\n";
+
+// The same with texts of at most five characters.
+const SHORT_DEFINITION: &[u8] =
     b"{\"root\":\"00000000-0000-0000-0000-000000000064\",\"admin\":\"00000000-0000-0000-0000-000000000065\",\"tables\":[{\"name\":\"account\",\"owned\":\"user\",\"columns\":[{\"name\":\"name\",\"type\":\"text\",\"max\":5}]}]}\n";
 
 const CREATE: &[u8] =
@@ -208,7 +212,7 @@ const ANSWERS: &[(&[u8], &[u8])] = &[
 #[test]
 fn each_line_gets_its_one_answer(rt: HostRuntime) -> Result<(), Fail> {
     let alloc = rt.alloc();
-    let mut input = Vec::from_slice(alloc, DEFINITION)?;
+    let mut input = Vec::from_slice(alloc, SHORT_DEFINITION)?;
     let mut replies = Vec::from_slice(alloc, OPENED)?;
     for (line, reply) in ANSWERS {
         input.extend_from_slice(line)?;
@@ -349,9 +353,13 @@ fn a_first_line_that_is_no_definition_is_refused(rt: HostRuntime) -> Result<(), 
         assert_eq!(rt; code, 3);
         assert!(rt; output.as_slice() == refused);
     }
-    let (code, output) = run_over(alloc, b" \n\t\r\n", 1)?;
-    assert_eq!(rt; code, 3);
-    assert!(rt; output.is_empty());
+    let nothing: &[u8] = b"";
+    let blanks: &[u8] = b" \n\t\r\n ";
+    for input in [nothing, blanks] {
+        let (code, output) = run_over(alloc, input, 1)?;
+        assert_eq!(rt; code, 3);
+        assert!(rt; output.is_empty());
+    }
     Ok(())
 }
 
@@ -374,32 +382,43 @@ fn words_that_are_no_command_are_refused(rt: HostRuntime) -> Result<(), Fail> {
     Ok(())
 }
 
+// How much of the replies is written where so many bytes of the three lines were taken.
+fn answered_after(taken: usize) -> usize {
+    let created = DEFINITION.len() + CREATE.len();
+    if taken < DEFINITION.len() {
+        0
+    } else if taken < created {
+        OPENED.len()
+    } else if taken < created + QUERY.len() {
+        OPENED.len() + CREATED.len()
+    } else {
+        OPENED.len() + CREATED.len() + SHOWN.len()
+    }
+}
+
 #[test]
 fn a_read_that_fails_leaves_the_lines_before_it_answered(rt: HostRuntime) -> Result<(), Fail> {
     let alloc = rt.alloc();
     let words = words_of(alloc, &["run"])?;
     let input = joined(alloc, &[DEFINITION, CREATE, QUERY])?;
     let whole = joined(alloc, &[OPENED, CREATED, SHOWN])?;
-    // In pieces of 40 bytes the k-th read fails, and the lines that ended before it were answered.
-    for k in 1..input.len().div_ceil(40) as u64 + 2 {
-        let mut source = NarrowSource {
-            inner: MemSource::failing(Vec::from_slice(alloc, input.as_slice())?, k),
-            most: 40,
-        };
-        let mut sink = MemSink::new(alloc, 1_000)?;
-        let Status(code) = top(alloc, words.as_slice(), &mut source, &mut sink);
-        assert_eq!(rt; code, 5, "read {k}");
-        let taken = (k as usize).saturating_sub(1) * 40;
-        let answered = if taken < DEFINITION.len() {
-            0
-        } else if taken < DEFINITION.len() + CREATE.len() {
-            OPENED.len()
-        } else if taken < input.len() {
-            OPENED.len() + CREATED.len()
-        } else {
-            whole.len()
-        };
-        assert!(rt; whole.get(..answered) == Some(sink.bytes()), "read {k}");
+    for piece in [1usize, 7, 40, 199, 4_096] {
+        // The read that finds the end of the input may fail too.
+        for k in 1..input.len().div_ceil(piece) as u64 + 2 {
+            let mut source = NarrowSource {
+                inner: MemSource::failing(Vec::from_slice(alloc, input.as_slice())?, k),
+                most: piece,
+            };
+            let mut sink = MemSink::new(alloc, 1_000)?;
+            let Status(code) = top(alloc, words.as_slice(), &mut source, &mut sink);
+            assert_eq!(rt; code, 5, "read {k} of pieces of {piece}");
+            let taken = (k as usize).saturating_sub(1).saturating_mul(piece);
+            let answered = answered_after(taken);
+            assert!(rt;
+                whole.get(..answered) == Some(sink.bytes()),
+                "read {k} of pieces of {piece}"
+            );
+        }
     }
     Ok(())
 }
@@ -427,6 +446,14 @@ fn a_write_that_fails_cuts_the_replies_where_it_stands(rt: HostRuntime) -> Resul
         let mut sink = MemSink::failing(alloc, 1_000, k)?;
         let Status(code) = top(alloc, words.as_slice(), &mut source, &mut sink);
         assert_eq!(rt; code, 6, "write {k}");
+        let written = if k == 1 {
+            0
+        } else if k == 2 {
+            OPENED.len()
+        } else {
+            OPENED.len() + CREATED.len()
+        };
+        assert!(rt; whole.get(..written) == Some(sink.bytes()), "write {k}");
     }
     Ok(())
 }

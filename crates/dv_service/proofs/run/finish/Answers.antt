@@ -1,19 +1,15 @@
-use Rattle.std.proofs.Common.{[], refl, sym, ◌∙◌}
-use Rattle.dv_service.specs.Lines.{lines_of}
+use Rattle.std.proofs.Common.{refl, sym, ◌∙◌, inl, inr}
 use Rattle.dv_service.proofs.Endings.{ending_of-NotOpened, ending_of-WriteFault, ending_of-OutOfMemory}
 use Rattle.dv_service.proofs.Runs.{Answered-unopened}
-use Rattle.dv_service.proofs.Streams.{IsUnopened-none, IsUnopened-line}
 use Rattle.dv_service.proofs.run.finish.Goals as goal
 
 pub returns-in-None-clause-not_opened : goal.returns-in-None-clause-not_opened
-returns-in-None-clause-not_opened g c = λ taken before left stands is size short at_end.
-    let none = Answered-unopened _ _ _ _ (c.in-Ok.ensures.answered taken before stands).1 c.in-None.is in
-    IsUnopened-none (lines_of taken) size left before _ none.0 (short, at_end, none.1)
+returns-in-None-clause-not_opened g c = λ taken before stands is.
+    inl (Answered-unopened _ _ _ _ (c.in-Ok.ensures.answered taken before stands).1 c.in-None.is)
 
 pub returns-in-Err-clause-not_opened : goal.returns-in-Err-clause-not_opened
-returns-in-Err-clause-not_opened g c = λ taken before left stands is size short at_end.
-    let refused = c.in-Err.ensures.refused taken before stands (rw (ending_of-NotOpened c.in-Err.stop (sym c.ending.ensures ∙ is)) refl) in
-    IsUnopened-line (lines_of taken) [] refused.0 size left before _ refused.1 refused.2 refused.3
+returns-in-Err-clause-not_opened g c = λ taken before stands is.
+    inr (c.in-Err.ensures.refused taken before stands (rw (ending_of-NotOpened c.in-Err.stop (sym c.ending.ensures ∙ is)) refl))
 
 pub returns-in-Err-clause-cut : goal.returns-in-Err-clause-cut
 returns-in-Err-clause-cut g c = λ taken before stands is.

@@ -1,14 +1,12 @@
-use Rattle.std.proofs.Common.{arith, refl, sym, ◌∙◌, ap, inl, inr, ◌++◌, ◌<◌, ◌≡◌, [], length, length-append}
+use Rattle.std.proofs.Common.{arith, refl, sym, ◌∙◌, ap, inl, inr, ◌++◌, [], length-append}
 use Rattle.std.specs.Io.KnownBytes.{prepend_known}
 use Rattle.std.proofs.lemmas.List.{length-take}
 use Rattle.dv_base.proofs.FaultLaws.{Rose-since}
 use Rattle.dv_base.proofs.KnownBytesLaws.{prepend_known-nil}
 use Rattle.dv_service.specs.Lines.{lines_of, ended_lines}
-use Rattle.dv_service.specs.Outcome.{IsUnopened}
-use Rattle.dv_service.specs.declared.run.TheConstants.{INPUT_LIMIT}
 use Rattle.dv_service.specs.declared.run.Turn.TheVariants.{Stopped}
 use Rattle.dv_service.proofs.Endings.{ending_of-NotOpened, ending_of-WriteFault, ending_of-OutOfMemory}
-use Rattle.dv_service.proofs.Inputs.{whole, refused_input, took_more}
+use Rattle.dv_service.proofs.Inputs.{took_more, unopened_at_end}
 use Rattle.dv_service.proofs.Streams.{Stands-none}
 use Rattle.dv_service.proofs.run.read_lines.Goals as goal
 
@@ -57,9 +55,11 @@ pub returns-in-AtEnd-clause-not_opened : goal.returns-in-AtEnd-clause-not_opened
 returns-in-AtEnd-clause-not_opened g c = λ is.
     let i = c.loop-taken.invariant in
     let end = c.in-AtEnd.ensures.at_end i.bytes _ i.stands refl in
-    let short : length i.bytes < INPUT_LIMIT = omega (arith, i.count, c.loop-taken-test.true) in
-    whole (λ bytes. IsUnopened (lines_of bytes) (length bytes) _ _ _) _ _ i.bytes (i.took ∙ ap (prepend_known i.bytes) (sym end.0)) end.1
-    (c.finish.ensures.not_opened i.bytes _ _ end.2 is (length i.bytes) short end.1)
+    record {
+      taken = i.bytes;
+      took = i.took ∙ ap (prepend_known i.bytes) (sym end.0);
+      how = unopened_at_end i.bytes _ _ _ end.1 (omega (arith, i.count, c.loop-taken-test.true)) (c.finish.ensures.not_opened i.bytes _ end.2 is);
+    }
 
 pub returns-in-AtEnd-clause-cut : goal.returns-in-AtEnd-clause-cut
 returns-in-AtEnd-clause-cut g c = λ is.
@@ -69,7 +69,7 @@ returns-in-AtEnd-clause-cut g c = λ is.
       taken = i.bytes;
       took = i.took ∙ ap (prepend_known i.bytes) (sym end.0);
       lines = lines_of i.bytes;
-      ended = inr (refl, end.1);
+      ended = inr (refl, end.1, omega (arith, i.count, c.loop-taken-test.true));
       cut = c.finish.ensures.cut i.bytes _ end.2 is;
     }
 
@@ -103,7 +103,19 @@ pub returns-in-Stopped-clause-not_opened : goal.returns-in-Stopped-clause-not_op
 returns-in-Stopped-clause-not_opened g c = λ is.
     let i = c.loop-taken.invariant in
     let refused = c.in-Stopped.ensures.refused i.bytes _ i.stands (ap Stopped (ending_of-NotOpened c.in-Stopped.stop (sym c.ending.ensures ∙ is))) in
-    refused_input _ _ (i.bytes ++ refused.0) _ _ (took_more _ _ _ i.bytes refused.0 i.took refused.1) refused.2
+    record {
+      taken = i.bytes ++ refused.0;
+      took = took_more _ _ _ i.bytes refused.0 i.took refused.1;
+      how = inr (record {
+        lines = ended_lines (i.bytes ++ refused.0);
+        ended = inl (refl, rw length-append (omega (arith, i.count, c.loop-taken-test.true, simp length-take at refused.2, c.min-room.ensures)));
+        line = refused.3.line;
+        others = refused.3.others;
+        parts = refused.3.first;
+        bad = refused.3.bad;
+        wrote = refused.3.wrote;
+      });
+    }
 
 pub returns-in-Stopped-clause-cut : goal.returns-in-Stopped-clause-cut
 returns-in-Stopped-clause-cut g c = λ is.
@@ -113,8 +125,8 @@ returns-in-Stopped-clause-cut g c = λ is.
       taken = i.bytes ++ cut.0;
       took = took_more _ _ _ i.bytes cut.0 i.took cut.1;
       lines = ended_lines (i.bytes ++ cut.0);
-      ended = inl refl;
-      cut = cut.2;
+      ended = inl (refl, rw length-append (omega (arith, i.count, c.loop-taken-test.true, simp length-take at cut.2, c.min-room.ensures)));
+      cut = cut.3;
     }
 
 pub returns-in-Stopped-clause-untouched : goal.returns-in-Stopped-clause-untouched

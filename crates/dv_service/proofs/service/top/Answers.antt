@@ -1,5 +1,6 @@
-use Rattle.std.proofs.Common.{sym, ◌∙◌}
-use Rattle.dv_service.proofs.Complete.{complete}
+use Rattle.std.proofs.Common.{refl, sym, ◌∙◌}
+use Rattle.dv_service.specs.Statuses.{is_status}
+use Rattle.dv_service.proofs.Complete.{complete, refuses, is_status-code_of}
 use Rattle.dv_service.proofs.Endings.{code_of-0, code_of-3, code_of-5, code_of-6, code_of-9, code_of-10, code_of-other}
 use Rattle.dv_service.proofs.service.top.Goals as goal
 
@@ -42,3 +43,14 @@ returns-then-is_run-clause-input_limit g c = λ is. c.run.ensures.limit_stopped 
 pub returns-then-is_run-clause-complete : goal.returns-then-is_run-clause-complete
 returns-then-is_run-clause-complete g c = λ words no_read no_write.
     rw c.status.ensures (complete _ _ _ _ _ _ _ c.run.result _ c.run.ensures.not_opened c.run.ensures.read c.run.ensures.write c.run.ensures.limit_stopped no_read no_write)
+
+pub returns-then-is_run-clause-refuses : goal.returns-then-is_run-clause-refuses
+returns-then-is_run-clause-refuses g c = λ words no_read no_write.
+    rw c.status.ensures (refuses _ _ _ _ _ _ _ c.run.result _ c.run.ensures.done c.run.ensures.read c.run.ensures.write c.run.ensures.limit_stopped no_read no_write)
+
+pub returns-then-is_run-clause-known : goal.returns-then-is_run-clause-known
+returns-then-is_run-clause-known g c = rw c.status.ensures (is_status-code_of c.run.result)
+
+pub returns-else-is_run-clause-known : goal.returns-else-is_run-clause-known
+unfolding is_status
+returns-else-is_run-clause-known g c = refl
