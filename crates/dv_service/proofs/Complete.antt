@@ -2,7 +2,7 @@ use Rattle.std.proofs.Common.{◌≡◌, ◌⊎◌, ℕ, ◌<◌, ◌≤◌, ◌
 use Rattle.std.specs.Io.KnownBytes.{prepend_known, IsAtEnd}
 use Rattle.std.proofs.lemmas.List.{append-nil}
 use Rattle.dv_base.specs.Faults.{Rose}
-use Rattle.dv_service.specs.Lines.{has_content, ended_lines, open_line, lines_of}
+use Rattle.dv_service.specs.Lines.{has_content, open_line, lines_of}
 use Rattle.dv_service.specs.Definitions.{opening_of}
 use Rattle.dv_service.specs.Machine.{Run}
 use Rattle.dv_service.specs.Statuses.{is_status, code_of}

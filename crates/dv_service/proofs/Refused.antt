@@ -1,9 +1,9 @@
-use Rattle.std.proofs.Common.{◌≡◌, ◌⊎◌, ℕ, List, [], Bool, true, false, not, ◌==◌, Option, Some, None, refl, sym, ◌∙◌, ap, inl, inr, if◌then◌else◌}
+use Rattle.std.proofs.Common.{◌≡◌, ℕ, List, Bool, true, false, not, ◌==◌, Option, Some, None, ap, inl, inr, if◌then◌else◌}
 use Rattle.std.specs.Option.{option_and_then}
 use Rattle.serde_json.specs.Data.{Data}
 use Rattle.dv_value.specs.declared.id.Id.{Id}
 use Rattle.dv_value.specs.declared.refusal.Refusal.{Refusal}
-use Rattle.dv_value.specs.declared.refusal.Refusal.TheVariants.{Malformed, UnknownCaller, NotBuilt}
+use Rattle.dv_value.specs.declared.refusal.Refusal.TheVariants.{UnknownCaller, NotBuilt}
 use Rattle.dv_service.specs.Lines.{within_limit}
 use Rattle.dv_service.specs.Requests.{request_of}
 use Rattle.dv_service.specs.Serve.{is_built, effect, serve, serve_request, serve_object, object_of, answer}

@@ -1,6 +1,6 @@
 use Rattle.std.proofs.Common.{◌≡◌, Result, Ok, Err, OnOk, OnErr}
 use Rattle.dv_service.specs.declared.status.Stop.{Stop}
-use Rattle.dv_service.specs.declared.status.Stop.TheVariants.{NotOpened, WriteFault, OutOfMemory}
+use Rattle.dv_service.specs.declared.status.Stop.TheVariants.{WriteFault}
 
 -- what follows from the fact of an `Ok`, and of an `Err`
 pub OnOk-map : {T E : Type 0} (r : Result T E) (P Q : Type 0) → (P → Q) → OnOk r P → OnOk r Q

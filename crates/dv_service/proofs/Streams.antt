@@ -1,4 +1,4 @@
-use Rattle.std.proofs.Common.{◌≡◌, ℕ, ◌+◌, ◌<◌, ◌≤◌, ◌==◌, List, [], ◌∷◌, ◌++◌, filter, length, take, drop, get_or, Option, Some, None, true, false, refl, sym, ◌∙◌, ap, subst, append_assoc, arith}
+use Rattle.std.proofs.Common.{◌≡◌, ℕ, ◌+◌, ◌<◌, ◌≤◌, ◌==◌, List, [], ◌∷◌, ◌++◌, filter, length, take, drop, get_or, Option, None, true, false, refl, sym, ◌∙◌, ap, subst, append_assoc}
 use Rattle.std.specs.Io.KnownBytes.{append_known}
 use Rattle.std.proofs.lemmas.Bool.{ne_eqb}
 use Rattle.std.proofs.lemmas.List.{append-nil, take_more, take_all, take-append-drop}
@@ -7,9 +7,8 @@ use Rattle.dv_service.specs.Definitions.{opening_of}
 use Rattle.dv_service.specs.Replies.{reply_line, bad_definition}
 use Rattle.dv_service.specs.Outcome.{Answered, CutIn}
 use Rattle.dv_service.specs.Sessions.{IsHeld, Stands, IsRefused}
-use Rattle.dv_service.specs.declared.org.Org.{Org}
 use Rattle.dv_service.specs.declared.session.Session.{Session}
-use Rattle.dv_service.proofs.Runs.{Answered-none, Answered-unopened}
+use Rattle.dv_service.proofs.Runs.{Answered-none}
 use Rattle.dv_service.proofs.Splitting.{ended_lines-feed, open_line-feed, ended_lines-byte, open_line-byte, ended_lines-append, ended_lines-nil, open_line-nil}
 
 unless_blank : (piece : List ℕ) → has_content piece ≡ false → filter has_content (piece ∷ []) ≡ []

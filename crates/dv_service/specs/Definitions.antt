@@ -1,11 +1,10 @@
 -- The line that begins an organisation: its root unit, its admin, and one user-owned table of text columns.
 -- Any other line is refused today.
-use Rattle.std.specs.Prelude.{ℕ, ◌==◌, ◌&&◌, ◌||◌, not, nat_le, length, List, [], ◌∷◌, Bool, true, false, Option, Some, None, option_map, option_and_then, if◌then◌else◌, codes, encode_utf8_all}
+use Rattle.std.specs.Prelude.{ℕ, ◌==◌, ◌&&◌, ◌||◌, not, nat_le, length, List, [], ◌∷◌, Bool, true, false, Option, Some, None, option_and_then, if◌then◌else◌, codes, encode_utf8_all}
 use Rattle.std.specs.List.{list_all, list_any}
 use Rattle.std.specs.Str.{bytes_eq}
 use Rattle.serde_json.specs.Data.{Data}
 use Rattle.dv_value.specs.Json.{json_of}
-use Rattle.dv_value.specs.declared.id.Id.{Id}
 use Rattle.dv_service.specs.Lines.{within_limit}
 use Rattle.dv_service.specs.Members.{has_members, has_word, id_at, text_at, number_at, list_at, each_of}
 use Rattle.dv_service.specs.declared.definition.Column.{Column}

@@ -1,11 +1,10 @@
 -- A reply is one line: compact JSON with members in ascending byte order, and a line feed.
 use Rattle.std.specs.Prelude.{ℕ, List, [], ◌∷◌, ◌++◌, Option, Some, None, false, map, codes, encode_utf8_all}
-use Rattle.serde_json.specs.Data.{Data, null, boolean, number, unsigned, string, array, object, Members, no_members, member, put}
+use Rattle.serde_json.specs.Data.{Data, null, boolean, number, unsigned, array, object, Members, no_members, member, put}
 use Rattle.serde_json.specs.View.{items_of}
 use Rattle.serde_json.specs.Written.{compact_text}
 use Rattle.dv_value.specs.Printed.{id_data, text_data}
 use Rattle.dv_value.specs.Refusals.{refusal_data}
-use Rattle.dv_value.specs.declared.refusal.Refusal.{Refusal}
 use Rattle.dv_value.specs.declared.refusal.Refusal.TheVariants.{BadDefinition}
 use Rattle.dv_service.specs.declared.reply.Cell.{Cell}
 use Rattle.dv_service.specs.declared.reply.Shown.{Shown}

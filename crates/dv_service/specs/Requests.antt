@@ -1,8 +1,7 @@
 -- The two requests that are read today, each an object of exactly four members.
-use Rattle.std.specs.Prelude.{ℕ, List, Option, Some, None, option_map, option_and_then, if◌then◌else◌, codes, chars}
+use Rattle.std.specs.Prelude.{ℕ, List, Option, None, option_map, option_and_then, if◌then◌else◌, codes, chars}
 use Rattle.serde_json.specs.Data.{Data}
 use Rattle.serde_json.specs.Find.{as_str}
-use Rattle.dv_value.specs.declared.id.Id.{Id}
 use Rattle.dv_service.specs.Members.{has_members, has_word, id_at, text_at, list_at, values_at, each_of}
 use Rattle.dv_service.specs.declared.request.Request.{Request}
 use Rattle.dv_service.specs.declared.request.Message.{Message}

@@ -1,5 +1,5 @@
 -- What one line does: the reply to it, and the organisation after it.
-use Rattle.std.specs.Prelude.{position, unwrap_or, slice_get, ℕ, ◌+◌, ◌==◌, ◌&&◌, ◌||◌, not, nat_le, length, List, [], ◌∷◌, map, Bool, true, false, Option, Some, None, option_and_then, if◌then◌else◌}
+use Rattle.std.specs.Prelude.{position, slice_get, ℕ, ◌+◌, ◌==◌, ◌&&◌, not, nat_le, length, List, [], map, Bool, true, false, Option, Some, None, option_and_then, if◌then◌else◌}
 use Rattle.std.specs.List.{list_all, list_any}
 use Rattle.std.specs.Str.{bytes_eq}
 use Rattle.serde_json.specs.Data.{Data}
@@ -12,12 +12,11 @@ use Rattle.dv_value.specs.declared.raw.Raw.TheVariants as raw
 use Rattle.dv_value.specs.declared.refusal.Refusal.TheVariants.{Malformed, UnknownCaller, NotBuilt}
 use Rattle.dv_value.specs.declared.value.Value.{Value}
 use Rattle.dv_value.specs.declared.value.Value.TheVariants as value
-use Rattle.dv_store.specs.Rows.{Kept, with_row}
+use Rattle.dv_store.specs.Rows.{with_row}
 use Rattle.dv_store.specs.declared.row.Row.{Row}
 use Rattle.dv_service.specs.Lines.{within_limit}
 use Rattle.dv_service.specs.Requests.{request_of}
 use Rattle.dv_service.specs.declared.definition.Column.{Column}
-use Rattle.dv_service.specs.declared.definition.Definition.{Definition}
 use Rattle.dv_service.specs.declared.org.Org.{Org}
 use Rattle.dv_service.specs.declared.reply.Cell.{Cell}
 use Rattle.dv_service.specs.declared.reply.Shown.{Shown}

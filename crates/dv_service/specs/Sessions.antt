@@ -1,8 +1,8 @@
 -- Where a session stands between two bytes of its input.
-use Rattle.std.specs.Prelude.{◌≡◌, ◌≤◌, ℕ, List, [], ◌∷◌, ◌++◌, Option, None, Result, IsErrOf, take}
+use Rattle.std.specs.Prelude.{◌≡◌, ◌≤◌, ℕ, List, ◌∷◌, Option, None, Result, IsErrOf, take}
 use Rattle.std.specs.Io.KnownBytes.{append_known}
 use Rattle.dv_base.specs.Faults.{Rose}
-use Rattle.dv_service.specs.Lines.{has_content, ended_lines, open_line, lines_of}
+use Rattle.dv_service.specs.Lines.{has_content, ended_lines, open_line}
 use Rattle.dv_service.specs.Definitions.{opening_of}
 use Rattle.dv_service.specs.Replies.{reply_line, bad_definition}
 use Rattle.dv_service.specs.Outcome.{Answered}

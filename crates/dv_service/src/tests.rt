@@ -232,7 +232,7 @@ fn each_line_gets_its_one_answer(rt: HostRuntime) -> Result<(), Fail> {
 fn long_query(alloc: Global, length: usize) -> Result<Vec<u8>, Fail> {
     let mut line = Vec::with_capacity(alloc, length)?;
     line.extend_from_slice(&QUERY[..QUERY.len().saturating_sub(1)])?;
-    while line.len() < length {
+    for _ in line.len()..length {
         line.push(b' ')?;
     }
     Ok(line)

@@ -1,4 +1,4 @@
-use Rattle.std.proofs.Common.{◌≡◌, sym, ap, ◌∙◌}
+use Rattle.std.proofs.Common.{sym, ap, ◌∙◌}
 use Rattle.dv_service.specs.Serve.{effect}
 use Rattle.dv_service.proofs.Steps.{below_limit, serve-effect}
 use Rattle.dv_service.proofs.serving.serve_request.Goals as goal

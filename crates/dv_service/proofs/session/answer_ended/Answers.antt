@@ -1,4 +1,4 @@
-use Rattle.std.proofs.Common.{Some, refl, sym, subst}
+use Rattle.std.proofs.Common.{refl, sym, subst}
 use Rattle.dv_service.specs.Machine.{Step}
 use Rattle.dv_service.proofs.Results.{OnOk-map}
 use Rattle.dv_service.proofs.session.answer_ended.Goals as goal

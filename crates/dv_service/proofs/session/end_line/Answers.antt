@@ -1,6 +1,6 @@
 use Rattle.std.proofs.Common.{◌∷◌, [], ◌++◌, sym, ◌∙◌, ap, subst}
 use Rattle.std.specs.Io.KnownBytes.{append_known}
-use Rattle.dv_service.specs.Lines.{open_line, ended_lines, lines_of}
+use Rattle.dv_service.specs.Lines.{open_line, ended_lines}
 use Rattle.dv_service.specs.Replies.{reply_line, bad_definition}
 use Rattle.dv_service.specs.Outcome.{Answered}
 use Rattle.dv_service.proofs.Runs.{Answered-more, Answered-unopened}

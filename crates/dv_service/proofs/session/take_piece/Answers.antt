@@ -1,6 +1,4 @@
-use Rattle.std.proofs.Common.{arith, subst, sym}
-use Rattle.std.proofs.lemmas.List.{append-nil}
-use Rattle.dv_service.specs.Sessions.{Stands}
+use Rattle.std.proofs.Common.{arith}
 use Rattle.dv_service.proofs.Streams.{Stands-more, Stands-whole, IsRefused-within, CutIn-within}
 use Rattle.dv_service.proofs.session.take_piece.Goals as goal
 

@@ -1,7 +1,6 @@
 use Rattle.std.proofs.Common.{◌∙◌, ap, map}
 use Rattle.dv_service.specs.Serve.{shown_of}
 use Rattle.dv_service.specs.Showing.{shown_cell}
-use Rattle.dv_service.specs.declared.reply.Shown.{Shown}
 use Rattle.dv_service.proofs.Selecting.{map-shown_cell}
 use Rattle.dv_service.proofs.showing.show_row.Goals as goal
 
