@@ -1,4 +1,5 @@
 pub mod Amounts
+pub mod AscendingNames
 pub mod Characters
 pub mod Floats
 pub mod Moments
