@@ -20,6 +20,8 @@ mod tests;
 mod text;
 mod token;
 mod typing;
+#[cfg(test)]
+mod typing_tests;
 mod value;
 mod what;
 
