@@ -1,8 +1,11 @@
-//! The plain values of the record service: ids, texts, raw values as JSON has them, and refusals.
+//! The plain values of the record service: ids, texts, values with their order and their spelling, raw values as
+//! JSON has them and the kinds that type them, tokens, and refusals.
 //!
 //! The layers above may rest on this: an id is read in any form of a UUID and has one printed form; a text is a
-//! list of characters, ordered by its UTF-8 bytes; bytes are JSON exactly where `serde_json` reads them; each
-//! refusal has one number and one printed form.
+//! list of characters, ordered by its UTF-8 bytes; values have a total order up to case folding, and one spelling
+//! each, of which none begins another; a moment has one text; a value within its kind's limits is typed again from
+//! its own raw value; bytes are JSON exactly where `serde_json` reads them; each refusal has one number and one
+//! printed form.
 #![tactic(auto)]
 
 mod amount;

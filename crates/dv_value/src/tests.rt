@@ -200,6 +200,7 @@ fn spelled(alloc: Global, value: &Value) -> Result<Vec<u8>, Fail>
 }
 
 // The spelling of a short text, nothing where it is long.
+#[tactic(auto, unfolding(crate::specs::Spelling::HasSpelling))]
 fn spelled_text(alloc: Global, text: &str) -> Result<Vec<u8>, Fail> {
     let text = Text::from_str(alloc, text)?;
     if text.as_str().len() > 100 {

@@ -52,6 +52,13 @@ fn a_choice(alloc: Global) -> Result<Items<i32>, Fail> {
     Ok(options)
 }
 
+// The value of a raw value among the options, or the fault.
+#[tactic(auto, unfolding(crate::specs::Typing::HasScale))]
+fn typed_choice(alloc: Global, raw: &Raw) -> Result<String, Fail> {
+    let options = a_choice(alloc)?;
+    typed(alloc, &Kind::Choice { options }, raw)
+}
+
 #[test]
 #[tactic(auto, unfolding(crate::specs::Typing::HasScale))]
 fn null_is_empty_in_each_kind(rt: HostRuntime) -> Result<(), Fail> {
@@ -112,11 +119,6 @@ fn a_flag_is_a_truth_value_alone(rt: HostRuntime) -> Result<(), Fail> {
 #[test]
 #[tactic(auto, unfolding(crate::specs::Typing::HasScale))]
 fn a_whole_keeps_to_its_ends(rt: HostRuntime) -> Result<(), Fail> {
-    let kind = Kind::Whole { min: -5, max: 9 };
-    let wide = Kind::Whole {
-        min: i32::MIN,
-        max: i32::MAX,
-    };
     let cases = [
         (-6, "OutOfRange"),
         (-5, "Whole(-5)"),
@@ -126,7 +128,12 @@ fn a_whole_keeps_to_its_ends(rt: HostRuntime) -> Result<(), Fail> {
     ];
     for (number, wanted) in cases {
         assert_eq!(rt;
-            typed(rt.alloc(), &kind, &Raw::Int(number))?.as_str(),
+            typed(
+                rt.alloc(),
+                &Kind::Whole { min: -5, max: 9 },
+                &Raw::Int(number)
+            )?
+            .as_str(),
             wanted
         );
     }
@@ -140,24 +147,37 @@ fn a_whole_keeps_to_its_ends(rt: HostRuntime) -> Result<(), Fail> {
     ];
     for (number, wanted) in at_the_ends {
         assert_eq!(rt;
-            typed(rt.alloc(), &wide, &Raw::Int(number))?.as_str(),
+            typed(
+                rt.alloc(),
+                &Kind::Whole {
+                    min: i32::MIN,
+                    max: i32::MAX
+                },
+                &Raw::Int(number)
+            )?
+            .as_str(),
             wanted
         );
     }
     assert_eq!(rt;
-        typed(rt.alloc(), &kind, &Raw::Bool(true))?.as_str(),
+        typed(
+            rt.alloc(),
+            &Kind::Whole { min: -5, max: 9 },
+            &Raw::Bool(true)
+        )?
+        .as_str(),
         "WrongType"
     );
-    assert_eq!(rt; typed_text(rt.alloc(), &kind, "1")?.as_str(), "WrongType");
+    assert_eq!(rt;
+        typed_text(rt.alloc(), &Kind::Whole { min: -5, max: 9 }, "1")?.as_str(),
+        "WrongType"
+    );
     Ok(())
 }
 
 #[test]
 #[tactic(auto, unfolding(crate::specs::Typing::HasScale))]
 fn a_choice_is_one_of_its_options(rt: HostRuntime) -> Result<(), Fail> {
-    let kind = Kind::Choice {
-        options: a_choice(rt.alloc())?,
-    };
     let cases = [
         (3, "Choice(3)"),
         (-4, "Choice(-4)"),
@@ -166,22 +186,24 @@ fn a_choice_is_one_of_its_options(rt: HostRuntime) -> Result<(), Fail> {
     ];
     for (number, wanted) in cases {
         assert_eq!(rt;
-            typed(rt.alloc(), &kind, &Raw::Int(number))?.as_str(),
+            typed_choice(rt.alloc(), &Raw::Int(number))?.as_str(),
             wanted
         );
     }
     assert_eq!(rt;
-        typed(rt.alloc(), &kind, &Raw::Bool(true))?.as_str(),
+        typed_choice(rt.alloc(), &Raw::Bool(true))?.as_str(),
         "WrongType"
     );
-    assert_eq!(rt; typed_text(rt.alloc(), &kind, "3")?.as_str(), "WrongType");
+    assert_eq!(rt;
+        typed_choice(rt.alloc(), &Raw::Str(Text::from_str(rt.alloc(), "3")?))?.as_str(),
+        "WrongType"
+    );
     Ok(())
 }
 
 #[test]
 #[tactic(auto, unfolding(crate::specs::Typing::HasScale))]
 fn an_amount_is_a_text_of_at_most_its_decimals(rt: HostRuntime) -> Result<(), Fail> {
-    let kind = Kind::Amount { scale: 2 };
     let cases = [
         ("1.5", "Amount(150)"),
         ("-0", "Amount(0)"),
@@ -192,17 +214,17 @@ fn an_amount_is_a_text_of_at_most_its_decimals(rt: HostRuntime) -> Result<(), Fa
     ];
     for (text, wanted) in cases {
         assert_eq!(rt;
-            typed_text(rt.alloc(), &kind, text)?.as_str(),
+            typed_text(rt.alloc(), &Kind::Amount { scale: 2 }, text)?.as_str(),
             wanted,
             "at {text}"
         );
     }
     assert_eq!(rt;
-        typed(rt.alloc(), &kind, &Raw::Int(1))?.as_str(),
+        typed(rt.alloc(), &Kind::Amount { scale: 2 }, &Raw::Int(1))?.as_str(),
         "WrongType"
     );
     assert_eq!(rt;
-        typed(rt.alloc(), &kind, &Raw::Bool(true))?.as_str(),
+        typed(rt.alloc(), &Kind::Amount { scale: 2 }, &Raw::Bool(true))?.as_str(),
         "WrongType"
     );
     Ok(())
@@ -237,7 +259,6 @@ fn a_moment_is_a_text_in_its_one_form(rt: HostRuntime) -> Result<(), Fail> {
 #[test]
 #[tactic(auto, unfolding(crate::specs::Typing::HasScale))]
 fn a_text_has_at_most_so_many_characters(rt: HostRuntime) -> Result<(), Fail> {
-    let kind = Kind::Text { max: 2 };
     let cases = [
         ("", "Text(Text { inner: \"\" })"),
         ("éé", "Text(Text { inner: \"éé\" })"),
@@ -247,17 +268,17 @@ fn a_text_has_at_most_so_many_characters(rt: HostRuntime) -> Result<(), Fail> {
     ];
     for (text, wanted) in cases {
         assert_eq!(rt;
-            typed_text(rt.alloc(), &kind, text)?.as_str(),
+            typed_text(rt.alloc(), &Kind::Text { max: 2 }, text)?.as_str(),
             wanted,
             "at {text}"
         );
     }
     assert_eq!(rt;
-        typed(rt.alloc(), &kind, &Raw::Int(1))?.as_str(),
+        typed(rt.alloc(), &Kind::Text { max: 2 }, &Raw::Int(1))?.as_str(),
         "WrongType"
     );
     assert_eq!(rt;
-        typed(rt.alloc(), &kind, &Raw::Bool(true))?.as_str(),
+        typed(rt.alloc(), &Kind::Text { max: 2 }, &Raw::Bool(true))?.as_str(),
         "WrongType"
     );
     Ok(())
