@@ -6,7 +6,7 @@ ghost use Rattle.dv_service.specs.Lines.{ended_lines, lines_of};
 ghost use Rattle.dv_service.specs.Outcome.{RanToEnd, NotOpened, StoppedBetween, CutIn, CutShort, Answered};
 ghost use Rattle.dv_service.specs.Definitions.{opening_of};
 ghost use Rattle.dv_service.specs.Replies.{reply_line, bad_definition};
-ghost use Rattle.dv_service.specs.Sessions.{IsHeld, Stands, IsRefused};
+ghost use Rattle.dv_service.specs.Sessions.{Stands, IsRefused};
 ghost use Rattle.dv_service.specs.declared.org.Org.{Org as Organisation};
 
 use crate::line_buffer::LineBuffer;
