@@ -6,7 +6,6 @@
 #![tactic(auto)]
 
 mod definition;
-mod laws;
 mod line_buffer;
 mod members;
 mod naming;
@@ -26,7 +25,6 @@ mod status;
 mod tests;
 
 pub use definition::{Column, Definition};
-pub use laws::a_refused_line_changes_nothing;
 pub use org::Org;
 pub use reply::{Cell, Reply, Shown};
 pub use request::{Message, Request};

@@ -99,49 +99,7 @@ fn finish<W: Sink>(session: &mut Session, output: &mut W) -> Ending
     }
 }
 
-// Reads the input to its end, piece by piece into the buffer, and answers its lines.
-fn read_lines<S: Source, W: Sink>(
-    alloc: Global,
-    line: LineBuffer,
-    input: &mut S,
-    output: &mut W,
-    buffer: &mut [u8],
-) -> Ending
-    requires held { IsHeld line [] }
-    requires room { 0 < length buffer.old }
-    ensures done { result ≡ Ending.Done
-        → RanToEnd (S.left input.old) (S.left input.new) (W.written output.old) (W.written output.new) }
-    ensures not_opened { result ≡ Ending.NotOpened
-        → NotOpened (S.left input.old) (S.left input.new) (W.written output.old) (W.written output.new) }
-    ensures read { result ≡ Ending.ReadFault → Rose (S.read_faults input.old) (S.read_faults input.new) }
-    ensures read_stopped { result ≡ Ending.ReadFault
-        → (stopped : StoppedBetween (S.left input.old) (S.left input.new) (W.written output.old) (W.written output.new)) × (length stopped.taken < 2 ^ 40) }
-    ensures limit_stopped { result ≡ Ending.InputLimit
-        → (stopped : StoppedBetween (S.left input.old) (S.left input.new) (W.written output.old) (W.written output.new)) × (length stopped.taken ≡ 2 ^ 40) }
-    ensures write { result ≡ Ending.WriteFault → Rose (W.write_faults output.old) (W.write_faults output.new) }
-    ensures cut { result ≡ Ending.WriteFault
-        → CutShort (S.left input.old) (S.left input.new) (W.written output.old) (W.written output.new) }
-    ensures untouched { result ≡ Ending.OutOfMemory → W.written output.new ≡ W.written output.old }
-{
-    let mut session = Session {
-        alloc,
-        org: None,
-        line,
-    };
-    let mut taken = 0u64;
-    while taken < INPUT_LIMIT {
-        let room = (INPUT_LIMIT - taken).min(buffer.len() as u64) as usize;
-        match take_turn(&mut session, input, output, &mut buffer[..room]) {
-            Turn::Took(count) => taken += count as u64,
-            Turn::AtEnd => return finish(&mut session, output),
-            Turn::ReadFault => return Ending::ReadFault,
-            Turn::Stopped(stop) => return stop.ending(),
-        }
-    }
-    Ending::InputLimit
-}
-
-/// Reads the input to its end, and answers its lines.
+/// Reads the input to its end, piece by piece, and answers its lines.
 pub fn run<S: Source, W: Sink>(alloc: Global, input: &mut S, output: &mut W) -> Ending
     ensures done { result ≡ Ending.Done
         → RanToEnd (S.left input.old) (S.left input.new) (W.written output.old) (W.written output.new) }
@@ -160,6 +118,21 @@ pub fn run<S: Source, W: Sink>(alloc: Global, input: &mut S, output: &mut W) -> 
     let Ok(line) = LineBuffer::new(alloc) else {
         return Ending::OutOfMemory;
     };
+    let mut session = Session {
+        alloc,
+        org: None,
+        line,
+    };
     let mut buffer = [0u8; PIECE];
-    read_lines(alloc, line, input, output, &mut buffer)
+    let mut taken = 0u64;
+    while taken < INPUT_LIMIT {
+        let room = (INPUT_LIMIT - taken).min(PIECE as u64) as usize;
+        match take_turn(&mut session, input, output, &mut buffer[..room]) {
+            Turn::Took(count) => taken += count as u64,
+            Turn::AtEnd => return finish(&mut session, output),
+            Turn::ReadFault => return Ending::ReadFault,
+            Turn::Stopped(stop) => return stop.ending(),
+        }
+    }
+    Ending::InputLimit
 }

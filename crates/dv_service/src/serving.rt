@@ -6,6 +6,7 @@ ghost use Rattle.dv_service.specs.Lines.{within_limit};
 ghost use Rattle.dv_service.specs.Replies.{reply_line};
 ghost use Rattle.dv_service.specs.Serve.{is_column, suits, takes, is_for, is_past_limit, is_built, typed, row_values, effect, serve, object_of, answer};
 ghost use Rattle.dv_service.specs.declared.reply.Reply.{Reply as Answer};
+ghost use Rattle.dv_value.specs.declared.refusal.Refusal.{Refusal as Refused};
 ghost use Rattle.dv_service.specs.declared.serving.TheConstants.{ROW_LIMIT as LIMIT};
 
 use crate::definition::Column;
@@ -129,6 +130,7 @@ fn typed_values(
 fn create(alloc: Global, org: &mut Org, caller: Id, values: &Values) -> Result<Vec<u8>, AllocError>
     requires { length org.old.store.rows < LIMIT }
     ensures ok { IfOk result (λ text. (reply : Answer) × ((org.new, reply) ≡ effect org.old caller (Message.Create values.now)) × (text.items ≡ reply_line reply)) }
+    ensures refused { (refusal : Refused) → IfOk result (λ text. text.items ≡ reply_line (Answer.Refused refusal) → org.new ≡ org.old) }
     ensures err { OnErr result (org.new ≡ org.old) }
 {
     let id = org.store.next_id();
@@ -163,6 +165,7 @@ fn refuse(alloc: Global, refusal: Refusal) -> Result<Vec<u8>, AllocError>
 #[tactic(auto, unfolding(crate::specs::Serve::serve))]
 fn serve_request(alloc: Global, org: &mut Org, request: &Request) -> Result<Vec<u8>, AllocError>
     ensures ok { IfOk result (λ text. (reply : Answer) × ((org.new, reply) ≡ serve org.old request.now) × (text.items ≡ reply_line reply)) }
+    ensures refused { (refusal : Refused) → IfOk result (λ text. text.items ≡ reply_line (Answer.Refused refusal) → org.new ≡ org.old) }
     ensures err { OnErr result (org.new ≡ org.old) }
 {
     if !can_serve(org, request) {
@@ -206,11 +209,12 @@ fn read_line(alloc: Global, line: Option<&[u8]>) -> Result<Option<Json>, AllocEr
     }
 }
 
-/// The reply's line to a line, and its effect. A line above the limit is given as `None`. An `Err` is want of memory,
-/// and leaves the organisation.
+/// The reply's line to a line, and its effect. A line above the limit is given as `None`. A line that is refused leaves
+/// the organisation, and so does an `Err`, which is want of memory.
 pub fn serve_line(alloc: Global, org: &mut Org, line: Option<&[u8]>) -> Result<Vec<u8>, AllocError>
     ensures ok { (bytes : List ℕ) → option_map (λ held. held.now) line.entry ≡ within_limit bytes
         → IfOk result (λ text. (reply : Answer) × ((org.new, reply) ≡ answer org.old bytes) × (text.items ≡ reply_line reply)) }
+    ensures refused { (refusal : Refused) → IfOk result (λ text. text.items ≡ reply_line (Answer.Refused refusal) → org.new ≡ org.old) }
     ensures err { OnErr result (org.new ≡ org.old) }
 {
     let Some(json) = read_line(alloc, line)? else {

@@ -457,3 +457,52 @@ fn a_write_that_fails_cuts_the_replies_where_it_stands(rt: HostRuntime) -> Resul
     }
     Ok(())
 }
+
+const EMPTY: &[u8] =
+    b"{\"ok\":{\"cookie\":null,\"more\":false,\"over\":null,\"rows\":[],\"total\":null}}\n";
+
+const NO_MEMORY: &[u8] = b"{\"refused\":{\"nr\":62}}\n";
+
+const CREATED_SECOND: &[u8] = b"{\"ok\":{\"id\":\"00000000-0000-0000-0000-000000000002\"}}\n";
+
+const BOTH_SHOWN: &[u8] =
+    b"{\"ok\":{\"cookie\":null,\"more\":false,\"over\":null,\"rows\":[{\"id\":\"00000000-0000-0000-0000-000000000001\",\"name\":\"Ann\"},{\"id\":\"00000000-0000-0000-0000-000000000002\",\"name\":\"Ann\"}],\"total\":null}}\n";
+
+// What is answered to a creation, a query, a creation and a query: all of them, or all but one that wanted memory.
+const ANSWERED: &[[&[u8]; 5]] = &[
+    [OPENED, CREATED, SHOWN, CREATED_SECOND, BOTH_SHOWN],
+    [OPENED, NO_MEMORY, EMPTY, CREATED, SHOWN],
+    [OPENED, CREATED, NO_MEMORY, CREATED_SECOND, BOTH_SHOWN],
+    [OPENED, CREATED, SHOWN, NO_MEMORY, SHOWN],
+    [OPENED, CREATED, SHOWN, CREATED_SECOND, NO_MEMORY],
+];
+
+// Whether the bytes are these parts, one after another.
+fn are_parts(bytes: &[u8], parts: &[&[u8]]) -> bool {
+    let mut rest = bytes;
+    for part in parts {
+        match rest.strip_prefix(*part) {
+            Some(behind) => rest = behind,
+            None => return false,
+        }
+    }
+    rest.is_empty()
+}
+
+// Holds in an ordinary run, and with `rt try --test --fail-alloc N` for each N.
+#[test]
+fn a_line_refused_for_memory_leaves_the_others_served(rt: HostRuntime) -> Result<(), Fail> {
+    let alloc = rt.alloc();
+    let words = words_of(alloc, &["run"])?;
+    let input = joined(alloc, &[DEFINITION, CREATE, QUERY, CREATE, QUERY])?;
+    let mut source = MemSource::new(input);
+    let mut sink = MemSink::new(alloc, 1_000)?;
+    let Status(code) = top(alloc, words.as_slice(), &mut source, &mut sink);
+    if code == 9 {
+        assert!(rt; sink.bytes().is_empty());
+        return Ok(());
+    }
+    assert_eq!(rt; code, 0);
+    assert!(rt; ANSWERED.iter().any(|parts| are_parts(sink.bytes(), parts)));
+    Ok(())
+}

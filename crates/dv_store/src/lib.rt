@@ -6,6 +6,8 @@
 
 mod row;
 mod store;
+#[cfg(test)]
+mod tests;
 
 pub use row::Row;
 pub use store::Store;

@@ -1,10 +1,13 @@
 pub mod Amounts
+pub mod AscendingNames
 pub mod Characters
 pub mod Floats
 pub mod Moments
+pub mod OneText
 pub mod Orders
 pub mod Printing
 pub mod Raws
+pub mod RoundTrips
 pub mod Sixteen
 pub mod Spellings
 pub mod Utf8

@@ -41,10 +41,10 @@ other_length text len = rw (other_at text (bytes_eq text (civil_text (civil_of t
 
 -- ---- the date
 
-abbrev Bounds : Civil → Type 0
+abbrev pub Bounds : Civil → Type 0
 Bounds c = (1 ≤ c.year) × (c.year ≤ 9999) × (1 ≤ c.month) × (c.month ≤ 12) × (1 ≤ c.day) × (c.day ≤ days_in_month (pos c.year) c.month)
 
-bounds : (c : Civil) → is_civil_date c ≡ true → Bounds c
+pub bounds : (c : Civil) → is_civil_date c ≡ true → Bounds c
 unfolding is_civil_date
 bounds c e =
     let (f1, day_high) = both _ _ e in

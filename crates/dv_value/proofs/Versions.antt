@@ -23,14 +23,14 @@ refused true false n other = refl
 refused false b n other = refl
 
 -- a printed version is read
-pub version_of-decimal : (n : ℕ) (text : List ℕ) → n < 2 ^ 64 → decimal n ≡ text → version_of text ≡ Some n
+pub version_of-decimal : (n : ℕ) (text : List ℕ) → n < 2 ^ 63 → decimal n ≡ text → version_of text ≡ Some n
 unfolding version_of
 version_of-decimal n text h e =
-    let value : digits_value 10 text ≡ n = ap (digits_value 10) (sym e) ∙ (decimal_is_IsNumeral n h).1 in
-    rw (value) (chosen (nat_lt n (2 ^ 64)) (bytes_eq (decimal n) text) n (lt-ltb n (2 ^ 64) h) ((bytes_eq-Decides (decimal n) text).1 e))
+    let value : digits_value 10 text ≡ n = ap (digits_value 10) (sym e) ∙ (decimal_is_IsNumeral n (omega (arith, h))).1 in
+    rw (value) (chosen (nat_lt n (2 ^ 63)) (bytes_eq (decimal n) text) n (lt-ltb n (2 ^ 63) h) ((bytes_eq-Decides (decimal n) text).1 e))
 
 -- any other text is not
-pub version_of-other : (text : List ℕ) → ((n : ℕ) → n < 2 ^ 64 → decimal n ≡ text → ⊥) → version_of text ≡ None
+pub version_of-other : (text : List ℕ) → ((n : ℕ) → n < 2 ^ 63 → decimal n ≡ text → ⊥) → version_of text ≡ None
 unfolding version_of
 version_of-other text other =
     refused _ _ (digits_value 10 text) (λ below same _. other (digits_value 10 text) (ltb-true _ _ below) ((bytes_eq-Decides _ text).0 same))
@@ -45,8 +45,8 @@ list_any-end p [] e = refl
 list_any-end p (x ∷ xs) e = cell (p x) (position_or_len p xs) (length xs) (list_any p xs) (list_any-end p xs) (e ∙ omega arith)
 
 -- the text of a version is a numeral, without and with a plus taken away
-pub numeral : (n : ℕ) (text : List ℕ) → n < 2 ^ 64 → decimal n ≡ text → IsNumeral 10 (without_leading_plus text) × (digits_value 10 (without_leading_plus text) ≡ n)
-numeral n text h e = rw (← e, no_plus (decimal n) (decimal_is_IsNumeral n h).0.1) (decimal_is_IsNumeral n h)
+pub numeral : (n : ℕ) (text : List ℕ) → n < 2 ^ 63 → decimal n ≡ text → IsNumeral 10 (without_leading_plus text) × (digits_value 10 (without_leading_plus text) ≡ n)
+numeral n text h e = let small : n < 2 ^ 64 = omega (arith, h) in rw (← e, no_plus (decimal n) (decimal_is_IsNumeral n small).0.1) (decimal_is_IsNumeral n small)
 
-pub below : (m n k : ℕ) → m ≡ n → n < k → m < k
-below m n k e h = rw e h
+pub below : (m n : ℕ) → m ≡ n → n < 2 ^ 63 → m < 2 ^ 64
+below m n e h = omega (arith, h)

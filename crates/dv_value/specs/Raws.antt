@@ -1,5 +1,8 @@
 -- A raw value is null, a truth value, an integer of 64 bits or a text.
-use Rattle.std.specs.Prelude.{ℕ, List, [], ◌∷◌, Option, Some, None, option_map, option_and_then, chars, find}
+use Rattle.std.specs.Prelude.{ℕ, List, [], ◌∷◌, Option, Some, None, option_map, option_and_then, map, chars, encode_utf8_all, find}
+use Rattle.std.specs.Cmp.Lexicographic.{slice_cmp}
+use Rattle.std.specs.List.Sorted.{IsStrictlySortedBy}
+use Rattle.std.specs.Ordering.{on, nat_cmp}
 use Rattle.std.specs.Str.{bytes_eq}
 use Rattle.serde_json.specs.Data.{Data, null, boolean, number, string, array, object, Members, no_members, member}
 use Rattle.serde_json.specs.Find.{as_i64}
@@ -23,3 +26,7 @@ values_of (member name d ms) = option_and_then (λ raw. option_map (λ values. (
 -- the value of a name, if there is one
 abbrev pub value_of : List ℕ → List (List ℕ × Raw) → Option Raw
 value_of name values = option_map (λ value. value.1) (find (λ value. bytes_eq value.0 name) values)
+
+-- the names ascend by their UTF-8 bytes, so each stands once
+abbrev pub HasAscendingNames : List (List ℕ × Raw) → Type 0
+HasAscendingNames values = IsStrictlySortedBy (on encode_utf8_all (slice_cmp nat_cmp)) (map (λ value. value.0) values)

@@ -1,4 +1,4 @@
--- A version is written in decimal. A token is a version, or a start and a place below it, joined by a plus.
+-- A version is a number from 0 to 2^63 - 1, written in decimal. A token is a version, or a start and a place below it, joined by a plus.
 use Rattle.std.specs.Prelude.{ℕ, ◌^◌, ◌==◌, List, ◌∷◌, ◌++◌, Bool, ◌&&◌, nat_lt, bytes_eq, if◌then◌else◌, Option, Some, None, option_map, option_and_then, decimal}
 use Rattle.std.specs.List.{list_any, before_first, after_first}
 use Rattle.std.specs.Str.Parse.{digits_value}
@@ -6,7 +6,7 @@ use Rattle.dv_value.specs.declared.token.Token.{Token}
 
 -- the version that a text is: the number of its digits, where that number is printed so
 unfoldable pub version_of : List ℕ → Option ℕ
-version_of text = if nat_lt (digits_value 10 text) (2 ^ 64) && bytes_eq (decimal (digits_value 10 text)) text then Some (digits_value 10 text) else None
+version_of text = if nat_lt (digits_value 10 text) (2 ^ 63) && bytes_eq (decimal (digits_value 10 text)) text then Some (digits_value 10 text) else None
 
 -- whether a byte is a plus
 abbrev pub is_plus : ℕ → Bool

@@ -1,5 +1,5 @@
 -- A kind gives a raw value its meaning: null is Empty, a text is read in the kind's spelling, and a number, a choice and a text keep to the kind's limits.
-use Rattle.std.specs.Prelude.{◌≡◌, ◌⊎◌, chars, ℕ, ◌^◌, ◌≤◌, ℤ, pos, negsuc, int_le, nat_lt, nat_le, Bool, ◌&&◌, if◌then◌else◌, List, length, encode_utf8_all, Option, Some, None, Result, Ok, Err}
+use Rattle.std.specs.Prelude.{◌≡◌, ◌⊎◌, chars, ℕ, ◌^◌, ◌≤◌, true, ℤ, pos, negsuc, ◌≤ℤ◌, int_le, nat_lt, nat_le, Bool, ◌&&◌, if◌then◌else◌, List, length, encode_utf8_all, Option, Some, None, Result, Ok, Err}
 use Rattle.std.specs.List.{list_any}
 use Rattle.std.specs.Ordering.{int_eq}
 use Rattle.dv_value.specs.Amount.{amount_of, amount_text}
@@ -89,6 +89,13 @@ kind_tag RefKind = 7
 -- the value is Empty or of the kind
 abbrev pub IsOfKind : Kind → Value → Type 0
 IsOfKind kind value = (tag_of value ≡ 0) ⊎ (tag_of value ≡ kind_tag kind)
+
+-- the value keeps to the kind's limits: an integer to its ends, a choice to its options, and a text to so many characters
+unfoldable pub IsWithin : Kind → Value → Type 0
+IsWithin (WholeKind min max) (Whole n) = (min ≤ℤ n) × (n ≤ℤ max)
+IsWithin (ChoiceKind options) (Choice n) = list_any (λ option. int_eq option n) options ≡ true
+IsWithin (TextKind max) (Text text) = length text ≤ max
+IsWithin kind value = Unit {0}
 
 -- the decimals of a kind's amounts
 unfoldable pub scale_of : Kind → ℕ

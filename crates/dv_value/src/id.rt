@@ -1,4 +1,4 @@
-ghost use Rattle.std.specs.Prelude.{◌≡◌, option_map, string_bytes, IfOk};
+ghost use Rattle.std.specs.Prelude.{◌≡◌, Some, option_map, string_bytes, IfOk};
 ghost use Rattle.dv_value.specs.Ids.{id_of, id_text};
 
 use std::alloc::{AllocError, Global};
@@ -24,7 +24,8 @@ impl Id {
     /// The id in lower case with hyphens.
     #[tactic(auto, unfolding(crate::specs::Ids::id_text))]
     pub fn to_text(&self, alloc: Global) -> Result<String, AllocError>
-        ensures { IfOk result (λ text. string_bytes text ≡ id_text self.now.0) }
+        ensures text { IfOk result (λ text. string_bytes text ≡ id_text self.now.0) }
+        ensures read_again { IfOk result (λ text. id_of (string_bytes text) ≡ Some self.now.0) }
     {
         let uuid = Uuid::from_u128(self.0);
         let mut buffer = Uuid::encode_buffer();

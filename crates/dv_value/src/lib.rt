@@ -20,6 +20,8 @@ mod tests;
 mod text;
 mod token;
 mod typing;
+#[cfg(test)]
+mod typing_tests;
 mod value;
 mod what;
 
@@ -27,7 +29,7 @@ pub use amount::{print_amount, read_amount};
 pub use id::Id;
 pub use json::{JsonFault, add_member, read_json};
 pub use kind::Kind;
-pub use moment::{print_moment, read_moment};
+pub use moment::{a_moment_has_one_text, print_moment, read_moment};
 pub use order::{compare, the_order_of_values_is_total};
 pub use printed::version_json;
 pub use raw::{Raw, Values};

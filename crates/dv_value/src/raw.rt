@@ -1,6 +1,6 @@
-ghost use Rattle.std.specs.Prelude.{◌≡◌, ◌∷◌, [], ◌++◌, IfOk, OnOk, OnErr, chars, option_map};
+ghost use Rattle.std.specs.Prelude.{◌≡◌, ◌∷◌, [], ◌++◌, IfOk, IfSome, OnOk, OnErr, chars, option_map};
 ghost use Rattle.serde_json.specs.View.{view, members_view};
-ghost use Rattle.dv_value.specs.Raws.{raw_of, values_of, value_of};
+ghost use Rattle.dv_value.specs.Raws.{raw_of, values_of, value_of, HasAscendingNames};
 
 use crate::text::Text;
 use serde_json::{Map, Value as Json};
@@ -49,7 +49,8 @@ impl Raw {
     }
 }
 
-/// Raw values under their names, each name once, in ascending byte order.
+/// Raw values under their names. They are made of the members of an object, so that each name stands once and the
+/// names ascend by their bytes.
 #[derive(Debug, Drop)]
 pub struct Values {
     items: Items<(Text, Raw)>,
@@ -81,12 +82,14 @@ impl Values {
         self.items.as_slice()
     }
 
-    /// The values that an object's members are. None where one of them isn't a raw value.
+    /// The values that an object's members are, each name once, in ascending byte order. None where one of them isn't
+    /// a raw value.
     pub fn from_json(
         alloc: Global,
         members: &Map<String, Json>,
     ) -> Result<Option<Values>, AllocError>
-        ensures { IfOk result (λ values. values ≡ values_of (members_view members.now.entries)) }
+        ensures values { IfOk result (λ values. values ≡ values_of (members_view members.now.entries)) }
+        ensures ascending { IfOk result (λ values. IfSome values HasAscendingNames) }
     {
         let mut values = Values::new(alloc);
         for (name, json) in members.iter() {

@@ -67,8 +67,11 @@ impl Token {
     }
 }
 
-/// Reads a version: its number in decimal, as it is printed. None for any other text, and for a number of more than
-/// 64 bits.
+// The last version that there can be, 2^63 - 1.
+const LAST_VERSION: u64 = 9_223_372_036_854_775_807;
+
+/// Reads a version: its number in decimal, as it is printed. None for any other text, and for a number above
+/// 2^63 - 1, the last version that there can be.
 #[tactic(auto, unfolding(crate::specs::Tokens::version_of))]
 pub fn read_version(text: &str) -> Option<u64>
     ensures { result ≡ version_of text.now }
@@ -76,6 +79,9 @@ pub fn read_version(text: &str) -> Option<u64>
     let Ok(version) = text.parse::<u64>() else {
         return None;
     };
+    if version > LAST_VERSION {
+        return None;
+    }
     let mut buffer = Buffer::new();
     if buffer.format(version) == text {
         Some(version)
@@ -89,8 +95,34 @@ mod tests {
     use super::*;
 
     #[test]
+    fn a_version_ends_at_the_last_one_of_63_bits(rt: HostRuntime) {
+        let cases = [
+            ("0", Some(0)),
+            ("9223372036854775806", Some(9_223_372_036_854_775_806)),
+            ("9223372036854775807", Some(9_223_372_036_854_775_807)),
+            ("9223372036854775808", None),
+            ("18446744073709551615", None),
+            ("18446744073709551616", None),
+            ("99999999999999999999999999", None),
+            ("-0", None),
+            ("+0", None),
+            ("00", None),
+        ];
+        for (text, version) in cases {
+            assert_eq!(rt; read_version(text), version, "at {text}");
+        }
+    }
+
+    #[test]
     fn a_token_is_read_only_as_it_is_printed(rt: HostRuntime) {
-        for text in ["0", "5", "6+5", "18446744073709551615+0"] {
+        for text in [
+            "0",
+            "5",
+            "6+5",
+            "9223372036854775807",
+            "9223372036854775807+0",
+            "9223372036854775807+9223372036854775806",
+        ] {
             let token = Token::parse(text).expect(&rt, "a token");
             let printed = token.to_text(rt.alloc()).expect(&rt, "memory");
             assert_eq!(rt; printed.as_str(), text);
@@ -104,6 +136,9 @@ mod tests {
             "5+5",
             "6+5+4",
             "6 +5",
+            "9223372036854775808",
+            "9223372036854775808+0",
+            "18446744073709551615",
             "18446744073709551616",
         ] {
             assert!(rt; Token::parse(text).is_none(), "at {text}");

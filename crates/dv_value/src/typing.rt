@@ -1,7 +1,7 @@
 ghost use Rattle.std.specs.Prelude.{◌≡◌, ◌≤◌, IfOk, IsErrOf, Ok, Err, Some, None, ◌&&◌, if◌then◌else◌};
 ghost use Rattle.std.specs.List.{list_any};
 ghost use Rattle.std.specs.Ordering.{int_eq};
-ghost use Rattle.dv_value.specs.Typing.{HasScale, in_limits, is_32, typed_truth, typed_number, typed_text, typed, IsOfKind, IsRawOf, scale_of};
+ghost use Rattle.dv_value.specs.Typing.{HasScale, in_limits, is_32, typed_truth, typed_number, typed_text, typed, IsOfKind, IsWithin, IsRawOf, scale_of};
 ghost use Rattle.dv_value.specs.Spelling.{HasSpelling};
 
 use crate::amount::{print_amount, read_amount};
@@ -40,11 +40,13 @@ impl From<AllocError> for TypeFault {
 }
 
 /// The value of a raw value in a kind. Null is Empty in each kind; the limits are the kind's own, and an integer
-/// of more than 32 bits passes them all.
+/// of more than 32 bits passes them all. What is typed is Empty or of the kind, and within the limits.
 #[tactic(auto, unfolding(crate::specs::Typing::typed))]
 pub fn type_raw(alloc: Global, kind: &Kind, raw: &Raw) -> Result<Value, TypeFault>
     requires { HasScale kind.now }
     ensures ok { IfOk result (λ value. typed kind.now raw.now ≡ Ok value) }
+    ensures of_kind { IfOk result (λ value. IsOfKind kind.now value) }
+    ensures within { IfOk result (λ value. IsWithin kind.now value) }
     ensures wrong_type { IsErrOf result TypeFault.WrongType → typed kind.now raw.now ≡ Err TypeFault.WrongType }
     ensures out_of_range { IsErrOf result TypeFault.OutOfRange → typed kind.now raw.now ≡ Err TypeFault.OutOfRange }
 {
@@ -151,13 +153,15 @@ fn type_text(alloc: Global, kind: &Kind, text: &Text) -> Result<Value, TypeFault
     }
 }
 
-/// The raw value of a value of a kind: an amount with all its decimals, an id in lower case with hyphens.
+/// The raw value of a value of a kind: an amount with all its decimals, an id in lower case with hyphens. A value
+/// within the kind's limits is typed again from it.
 #[tactic(auto, unfolding(crate::specs::Typing::IsRawOf, crate::specs::Spelling::HasSpelling))]
 pub fn raw_of(alloc: Global, kind: &Kind, value: &Value) -> Result<Raw, AllocError>
     requires scale { HasScale kind.now }
     requires of_kind { IsOfKind kind.now value.now }
     requires spelled { HasSpelling value.now }
-    ensures { IfOk result (λ raw. IsRawOf kind.now value.now raw) }
+    ensures spelling { IfOk result (λ raw. IsRawOf kind.now value.now raw) }
+    ensures back { IsWithin kind.now value.now → IfOk result (λ raw. typed kind.now raw ≡ Ok value.now) }
 {
     match value {
         Value::Empty => Ok(Raw::Null),

@@ -8,7 +8,7 @@ use Rattle.dv_service.specs.declared.run.Turn.TheVariants.{Stopped}
 use Rattle.dv_service.proofs.Endings.{ending_of-NotOpened, ending_of-WriteFault, ending_of-OutOfMemory}
 use Rattle.dv_service.proofs.Inputs.{took_more, unopened_at_end}
 use Rattle.dv_service.proofs.Streams.{Stands-none}
-use Rattle.dv_service.proofs.run.read_lines.Goals as goal
+use Rattle.dv_service.proofs.run.run.Goals as goal
 
 pub loop-taken-init : goal.loop-taken-init
 loop-taken-init g c = record {
@@ -16,7 +16,7 @@ loop-taken-init g c = record {
   took = sym (prepend_known-nil (g.S.Ends.left c.args.input.now));
   count = refl;
   within = omega arith;
-  stands = Stands-none _ _ refl c.requires.held;
+  stands = Stands-none _ _ refl c.in-Ok.ensures;
   read_later = omega arith;
   write_later = omega arith;
 }

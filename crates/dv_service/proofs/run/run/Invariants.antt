@@ -2,7 +2,7 @@ use Rattle.std.proofs.Common.{◌≡◌, ◌≤◌, ◌-◌, List, ℕ, length}
 use Rattle.std.specs.Io.KnownBytes.{prepend_known}
 use Rattle.dv_service.specs.Sessions.{Stands}
 use Rattle.dv_service.specs.declared.run.TheConstants.{INPUT_LIMIT}
-use Rattle.dv_service.proofs.run.read_lines.Given as goal
+use Rattle.dv_service.proofs.run.run.Given as goal
 
 abbrev pub invariant-loop-taken : goal.invariant-loop-taken
 invariant-loop-taken g l = record {
