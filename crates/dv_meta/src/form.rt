@@ -86,23 +86,3 @@ fn bad(fault: Fault) -> DefFault
         },
     }
 }
-
-#[cfg(test)]
-mod tests {
-    use super::*;
-
-    #[test]
-    fn a_text_of_the_right_form_is_read(rt: HostRuntime) {
-        let text =
-            r#"{"root":"00000000-0000-0000-0000-000000000100","admin":"00000000-0000-0000-0000-000000000101","tables":[{"name":"a","owned":"user","tracking":true,"columns":[{"name":"b","type":"whole","max":1},{"name":"c","type":"choice","options":[3,-1]},{"name":"d","type":"rollup","kind":"sum","over":"r","of":"b"}]}],"relationships":[{"name":"r","parent":"a","child":"a","column":"b","assign":"active"}],"steps":[{"step":2,"message":"update","table":"a","stage":40,"rank":9,"columns":["b"],"post":["b"],"config":{"x":1}}],"roles":[{"id":"00000000-0000-0000-0000-000000000201","inheritance":"direct","privileges":[["*","*",3],["AppendTo","a",1]]}]}"#;
-        match read_form(rt.alloc(), text.as_bytes()) {
-            Ok(draft) => {
-                assert_eq!(rt; draft.tables.len(), 1);
-                assert_eq!(rt; draft.relationships.len(), 1);
-                assert_eq!(rt; draft.steps.len(), 1);
-                assert_eq!(rt; draft.opening.roles.len(), 1);
-            }
-            Err(_) => assert!(rt; false, "a fault"),
-        }
-    }
-}

@@ -1,5 +1,5 @@
-ghost use Rattle.std.specs.Prelude.{◌≡◌};
-ghost use Rattle.dv_form.specs.Tables.{table_of};
+ghost use Rattle.std.specs.Prelude.{◌≡◌, [], None, map};
+ghost use Rattle.dv_form.specs.Tables.{member_of, table_of};
 ghost use Rattle.dv_meta.specs.Grammar.{tables};
 
 use dv_form::{Bar, Case, Form, Grammar, Member, Spelling, Table};
@@ -61,344 +61,138 @@ const fn plain(members: &'static [Member<Rule>]) -> Table<Rule>
     }
 }
 
-ghost use Rattle.std.specs.Prelude.{[], None, map};
-ghost use Rattle.dv_form.specs.Tables.{member_of};
+// A member that must be there, unless something bars it.
+macro_rules! needs {
+    ($name:literal, $form:expr $(, unless $($bar:expr),+)?) => {
+        Member {
+            name: $name,
+            needed: true,
+            form: $form,
+            barred: &[$($($bar),+)?],
+        }
+    };
+}
+
+// A member that may be missing, and that may not be there where something bars it.
+macro_rules! may {
+    ($name:literal, $form:expr $(, unless $($bar:expr),+)?) => {
+        Member {
+            name: $name,
+            needed: false,
+            form: $form,
+            barred: &[$($($bar),+)?],
+        }
+    };
+}
 
 // The whole definition.
 const DEFINITION: &[Member<Rule>] = &[
-    Member {
-        name: "root",
-        needed: true,
-        form: Form::Value(Spelling::RealId),
-        barred: &[],
-    },
-    Member {
-        name: "admin",
-        needed: true,
-        form: Form::Value(Spelling::RealId),
-        barred: &[Bar::IsSameId("root")],
-    },
-    Member {
-        name: "tables",
-        needed: true,
-        form: Form::Objects(Rule::Table, Some(100)),
-        barred: &[],
-    },
-    Member {
-        name: "relationships",
-        needed: false,
-        form: Form::Objects(Rule::Relationship, Some(300)),
-        barred: &[],
-    },
-    Member {
-        name: "steps",
-        needed: false,
-        form: Form::Objects(Rule::Registration, Some(500)),
-        barred: &[],
-    },
-    Member {
-        name: "units",
-        needed: false,
-        form: Form::Objects(Rule::Unit, Some(999)),
-        barred: &[],
-    },
-    Member {
-        name: "roles",
-        needed: false,
-        form: Form::Objects(Rule::Role, Some(500)),
-        barred: &[],
-    },
-    Member {
-        name: "users",
-        needed: false,
-        form: Form::Objects(Rule::User, Some(9_999)),
-        barred: &[],
-    },
-    Member {
-        name: "teams",
-        needed: false,
-        form: Form::Objects(Rule::Team, Some(5_000)),
-        barred: &[],
-    },
+    needs!("root", Form::Value(Spelling::RealId)),
+    needs!("admin", Form::Value(Spelling::RealId), unless Bar::IsSameId("root")),
+    needs!("tables", Form::Objects(Rule::Table, Some(100))),
+    may!(
+        "relationships",
+        Form::Objects(Rule::Relationship, Some(300))
+    ),
+    may!("steps", Form::Objects(Rule::Registration, Some(500))),
+    may!("units", Form::Objects(Rule::Unit, Some(999))),
+    may!("roles", Form::Objects(Rule::Role, Some(500))),
+    may!("users", Form::Objects(Rule::User, Some(9_999))),
+    may!("teams", Form::Objects(Rule::Team, Some(5_000))),
 ];
 
 // A table.
 const TABLE: &[Member<Rule>] = &[
-    Member {
-        name: "name",
-        needed: true,
-        form: Form::Value(Spelling::Name),
-        barred: &[],
-    },
-    Member {
-        name: "owned",
-        needed: true,
-        form: Form::Value(Spelling::WordAmong(&["user", "organization"])),
-        barred: &[],
-    },
-    Member {
-        name: "tracking",
-        needed: false,
-        form: Form::Value(Spelling::Flag),
-        barred: &[],
-    },
-    Member {
-        name: "columns",
-        needed: true,
-        form: Form::Objects(Rule::Column, Some(60)),
-        barred: &[],
-    },
+    needs!("name", Form::Value(Spelling::Name)),
+    needs!(
+        "owned",
+        Form::Value(Spelling::WordAmong(&["user", "organization"]))
+    ),
+    may!("tracking", Form::Value(Spelling::Flag)),
+    needs!("columns", Form::Objects(Rule::Column, Some(60))),
 ];
 
 // A column, whatever its type.
 const COLUMN: &[Member<Rule>] = &[
-    Member {
-        name: "name",
-        needed: true,
-        form: Form::Value(Spelling::Name),
-        barred: &[],
-    },
-    Member {
-        name: "type",
-        needed: true,
-        form: Form::Value(Spelling::WordAmong(&[
+    needs!("name", Form::Value(Spelling::Name)),
+    needs!(
+        "type",
+        Form::Value(Spelling::WordAmong(&[
             "flag", "moment", "lookup", "whole", "choice", "amount", "text", "rollup",
-        ])),
-        barred: &[],
-    },
-    Member {
-        name: "required",
-        needed: false,
-        form: Form::Value(Spelling::Flag),
-        barred: &[],
-    },
+        ]))
+    ),
+    may!("required", Form::Value(Spelling::Flag)),
 ];
 
 // A relationship.
 const RELATIONSHIP: &[Member<Rule>] = &[
-    Member {
-        name: "name",
-        needed: true,
-        form: Form::Value(Spelling::Name),
-        barred: &[],
-    },
-    Member {
-        name: "parent",
-        needed: true,
-        form: Form::Value(Spelling::Name),
-        barred: &[],
-    },
-    Member {
-        name: "child",
-        needed: true,
-        form: Form::Value(Spelling::Name),
-        barred: &[],
-    },
-    Member {
-        name: "column",
-        needed: true,
-        form: Form::Value(Spelling::Name),
-        barred: &[],
-    },
-    Member {
-        name: "assign",
-        needed: false,
-        form: Form::Value(CASCADE),
-        barred: &[],
-    },
-    Member {
-        name: "share",
-        needed: false,
-        form: Form::Value(CASCADE),
-        barred: &[],
-    },
-    Member {
-        name: "unshare",
-        needed: false,
-        form: Form::Value(CASCADE),
-        barred: &[],
-    },
-    Member {
-        name: "reparent",
-        needed: false,
-        form: Form::Value(CASCADE),
-        barred: &[],
-    },
-    Member {
-        name: "delete",
-        needed: false,
-        form: Form::Value(Spelling::WordAmong(&["cascade", "removelink", "restrict"])),
-        barred: &[],
-    },
+    needs!("name", Form::Value(Spelling::Name)),
+    needs!("parent", Form::Value(Spelling::Name)),
+    needs!("child", Form::Value(Spelling::Name)),
+    needs!("column", Form::Value(Spelling::Name)),
+    may!("assign", Form::Value(CASCADE)),
+    may!("share", Form::Value(CASCADE)),
+    may!("unshare", Form::Value(CASCADE)),
+    may!("reparent", Form::Value(CASCADE)),
+    may!(
+        "delete",
+        Form::Value(Spelling::WordAmong(&["cascade", "removelink", "restrict"]))
+    ),
 ];
 
 // A registration of a step.
 const REGISTRATION: &[Member<Rule>] = &[
-    Member {
-        name: "step",
-        needed: true,
-        form: Form::Value(Spelling::IntegerFrom(0, i64::MAX)),
-        barred: &[],
-    },
-    Member {
-        name: "message",
-        needed: true,
-        form: Form::Value(Spelling::WordAmong(&[
+    needs!("step", Form::Value(Spelling::IntegerFrom(0, i64::MAX))),
+    needs!(
+        "message",
+        Form::Value(Spelling::WordAmong(&[
             "create", "update", "delete", "assign", "grant", "modify", "revoke",
-        ])),
-        barred: &[],
-    },
-    Member {
-        name: "table",
-        needed: true,
-        form: Form::Value(Spelling::Name),
-        barred: &[],
-    },
-    Member {
-        name: "stage",
-        needed: true,
-        form: Form::Value(Spelling::IntegerAmong(&[10, 20, 40])),
-        barred: &[],
-    },
-    Member {
-        name: "rank",
-        needed: true,
-        form: Form::Value(Spelling::IntegerFrom(0, 1_000_000)),
-        barred: &[],
-    },
-    Member {
-        name: "columns",
-        needed: false,
-        form: Form::Values(Spelling::Name, None),
-        barred: &[],
-    },
-    Member {
-        name: "as",
-        needed: false,
-        form: Form::Value(Spelling::Id),
-        barred: &[],
-    },
-    Member {
-        name: "pre",
-        needed: false,
-        form: Form::Values(Spelling::Name, None),
-        barred: &[Bar::IsWord("message", "create")],
-    },
-    Member {
-        name: "post",
-        needed: false,
-        form: Form::Values(Spelling::Name, None),
-        barred: &[
-            Bar::IsNotInteger("stage", 40),
-            Bar::IsWord("message", "delete"),
-        ],
-    },
-    Member {
-        name: "config",
-        needed: false,
-        form: Form::RawValues,
-        barred: &[],
-    },
+        ]))
+    ),
+    needs!("table", Form::Value(Spelling::Name)),
+    needs!("stage", Form::Value(Spelling::IntegerAmong(&[10, 20, 40]))),
+    needs!("rank", Form::Value(Spelling::IntegerFrom(0, 1_000_000))),
+    may!("columns", Form::Values(Spelling::Name, None)),
+    may!("as", Form::Value(Spelling::Id)),
+    may!("pre", Form::Values(Spelling::Name, None), unless Bar::IsWord("message", "create")),
+    may!("post", Form::Values(Spelling::Name, None), unless Bar::IsNotInteger("stage", 40), Bar::IsWord("message", "delete")),
+    may!("config", Form::RawValues),
 ];
 
 // A business unit.
 const UNIT: &[Member<Rule>] = &[
-    Member {
-        name: "id",
-        needed: true,
-        form: Form::Value(Spelling::Id),
-        barred: &[],
-    },
-    Member {
-        name: "parent",
-        needed: true,
-        form: Form::Value(Spelling::Id),
-        barred: &[],
-    },
+    needs!("id", Form::Value(Spelling::Id)),
+    needs!("parent", Form::Value(Spelling::Id)),
 ];
 
 // A security role.
 const ROLE: &[Member<Rule>] = &[
-    Member {
-        name: "id",
-        needed: true,
-        form: Form::Value(Spelling::Id),
-        barred: &[],
-    },
-    Member {
-        name: "inheritance",
-        needed: true,
-        form: Form::Value(Spelling::WordAmong(&["team", "direct"])),
-        barred: &[],
-    },
-    Member {
-        name: "manage",
-        needed: false,
-        form: Form::Value(Spelling::Flag),
-        barred: &[],
-    },
-    Member {
-        name: "privileges",
-        needed: true,
-        form: Form::Tuples(PRIVILEGE, None),
-        barred: &[],
-    },
+    needs!("id", Form::Value(Spelling::Id)),
+    needs!(
+        "inheritance",
+        Form::Value(Spelling::WordAmong(&["team", "direct"]))
+    ),
+    may!("manage", Form::Value(Spelling::Flag)),
+    needs!("privileges", Form::Tuples(PRIVILEGE, None)),
 ];
 
 // A user.
 const USER: &[Member<Rule>] = &[
-    Member {
-        name: "id",
-        needed: true,
-        form: Form::Value(Spelling::Id),
-        barred: &[],
-    },
-    Member {
-        name: "unit",
-        needed: true,
-        form: Form::Value(Spelling::Id),
-        barred: &[],
-    },
-    Member {
-        name: "roles",
-        needed: false,
-        form: Form::Values(Spelling::Id, None),
-        barred: &[],
-    },
+    needs!("id", Form::Value(Spelling::Id)),
+    needs!("unit", Form::Value(Spelling::Id)),
+    may!("roles", Form::Values(Spelling::Id, None)),
 ];
 
 // A team.
 const TEAM: &[Member<Rule>] = &[
-    Member {
-        name: "id",
-        needed: true,
-        form: Form::Value(Spelling::Id),
-        barred: &[],
-    },
-    Member {
-        name: "unit",
-        needed: true,
-        form: Form::Value(Spelling::Id),
-        barred: &[],
-    },
-    Member {
-        name: "kind",
-        needed: true,
-        form: Form::Value(Spelling::WordAmong(&["owner", "access"])),
-        barred: &[],
-    },
-    Member {
-        name: "members",
-        needed: false,
-        form: Form::Values(Spelling::Id, Some(100_000)),
-        barred: &[],
-    },
-    Member {
-        name: "roles",
-        needed: false,
-        form: Form::Values(Spelling::Id, None),
-        barred: &[],
-    },
+    needs!("id", Form::Value(Spelling::Id)),
+    needs!("unit", Form::Value(Spelling::Id)),
+    needs!(
+        "kind",
+        Form::Value(Spelling::WordAmong(&["owner", "access"]))
+    ),
+    may!("members", Form::Values(Spelling::Id, Some(100_000))),
+    may!("roles", Form::Values(Spelling::Id, None)),
 ];
 
 // The words of what is handed on to children.
@@ -430,74 +224,38 @@ const BY_TYPE: &[Case<Rule>] = &[
     Case {
         word: "whole",
         members: &[
-            Member {
-                name: "min",
-                needed: false,
-                form: Form::Value(Spelling::IntegerFrom(-2_147_483_648, 2_147_483_647)),
-                barred: &[],
-            },
-            Member {
-                name: "max",
-                needed: false,
-                form: Form::Value(Spelling::IntegerFrom(-2_147_483_648, 2_147_483_647)),
-                barred: &[],
-            },
+            may!(
+                "min",
+                Form::Value(Spelling::IntegerFrom(-2_147_483_648, 2_147_483_647))
+            ),
+            may!(
+                "max",
+                Form::Value(Spelling::IntegerFrom(-2_147_483_648, 2_147_483_647))
+            ),
         ],
     },
     Case {
         word: "choice",
-        members: &[Member {
-            name: "options",
-            needed: true,
-            form: Form::DistinctIntegers,
-            barred: &[],
-        }],
+        members: &[needs!("options", Form::DistinctIntegers)],
     },
     Case {
         word: "amount",
-        members: &[Member {
-            name: "scale",
-            needed: true,
-            form: Form::Value(Spelling::IntegerFrom(0, 4)),
-            barred: &[],
-        }],
+        members: &[needs!("scale", Form::Value(Spelling::IntegerFrom(0, 4)))],
     },
     Case {
         word: "text",
-        members: &[Member {
-            name: "max",
-            needed: true,
-            form: Form::Value(Spelling::IntegerFrom(1, 2_000)),
-            barred: &[],
-        }],
+        members: &[needs!("max", Form::Value(Spelling::IntegerFrom(1, 2_000)))],
     },
     Case {
         word: "rollup",
         members: &[
-            Member {
-                name: "kind",
-                needed: true,
-                form: Form::Value(Spelling::WordAmong(&["sum", "count", "min", "max"])),
-                barred: &[],
-            },
-            Member {
-                name: "over",
-                needed: true,
-                form: Form::Value(Spelling::Name),
-                barred: &[],
-            },
-            Member {
-                name: "of",
-                needed: false,
-                form: Form::Value(Spelling::Name),
-                barred: &[],
-            },
-            Member {
-                name: "active",
-                needed: false,
-                form: Form::Value(Spelling::Flag),
-                barred: &[],
-            },
+            needs!(
+                "kind",
+                Form::Value(Spelling::WordAmong(&["sum", "count", "min", "max"]))
+            ),
+            needs!("over", Form::Value(Spelling::Name)),
+            may!("of", Form::Value(Spelling::Name)),
+            may!("active", Form::Value(Spelling::Flag)),
         ],
     },
 ];

@@ -32,6 +32,18 @@ mod system;
 mod table;
 mod taken;
 mod teams;
+#[cfg(test)]
+mod tests;
+#[cfg(test)]
+mod tests_accepted;
+#[cfg(test)]
+mod tests_form;
+#[cfg(test)]
+mod tests_limits;
+#[cfg(test)]
+mod tests_names;
+#[cfg(test)]
+mod tests_relations;
 mod unknown;
 
 pub use definition::Definition;

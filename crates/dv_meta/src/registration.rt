@@ -7,7 +7,7 @@ pub struct Registration {
     pub step: usize,
     pub message: Message,
     pub table: u16,
-    /// 10 before the first look at the row, 20 before the effect, 40 after it.
+    /// 10 before rights are asked, 20 before the effect, 40 after it.
     pub stage: u8,
     /// Steps of one stage run by rising rank.
     pub rank: u32,
