@@ -7,18 +7,19 @@ use Rattle.serde_json.specs.Find.{get, get_member, as_array}
 use Rattle.serde_json.specs.View.{items_of, view}
 use Rattle.serde_json.specs.declared.value.Value.{Value}
 use Rattle.dv_wire.specs.Deep.{deep, deep_under, deep_list, deep_each, nothing}
-use Rattle.dv_wire.specs.Members.{list_of, list_if, list_at}
+use Rattle.dv_form.specs.Members.{data_list}
+use Rattle.dv_wire.specs.Members.{list_if, list_at}
 
 abbrev Step : Type 0 → Type 0
 Step A = Data → (List ℕ → List A) → A
 
-each : {A : Type 0} (step : Step A) (ds : Items) → deep_each step ds ≡ map (deep step) (list_of ds)
+each : {A : Type 0} (step : Step A) (ds : Items) → deep_each step ds ≡ map (deep step) (data_list ds)
 unfolding deep
 each step no_items = refl
 each step (item d ds) = ap (λ xs. deep step d ∷ xs) (each step ds)
 
 abbrev items : Option Items → List Data
-items o = unwrap_or (option_map list_of o) []
+items o = unwrap_or (option_map data_list o) []
 
 in_list : {A : Type 0} (step : Step A) (d : Data) → deep_list step d ≡ map (deep step) (items (as_array d))
 unfolding deep
@@ -61,19 +62,19 @@ member_below : (ms : Members) (name : List ℕ) (d : Data) → get_member name m
 member_below no_members name d is = absurd (cc)
 member_below (member key e ms) name d is = below_at (slice_cmp nat_cmp name key) e d name ms (max (depth e) (members_depth ms)) is (omega arith) (λ k. omega (arith, member_below ms name d k))
 
-items_of-list_of : (ds : Items) → items_of (list_of ds) ≡ ds
-items_of-list_of no_items = refl
-items_of-list_of (item d ds) = ap (item d) (items_of-list_of ds)
+items_of-data_list : (ds : Items) → items_of (data_list ds) ≡ ds
+items_of-data_list no_items = refl
+items_of-data_list (item d ds) = ap (item d) (items_of-data_list ds)
 
-of_array : (e : Data) (ds : List Data) (n : ℕ) → option_map list_of (as_array e) ≡ Some ds → depth e ≤ n → items_depth (items_of ds) + 1 ≤ n
+of_array : (e : Data) (ds : List Data) (n : ℕ) → option_map data_list (as_array e) ≡ Some ds → depth e ≤ n → items_depth (items_of ds) + 1 ≤ n
 of_array null ds n is h = absurd (cc)
 of_array (boolean b) ds n is h = absurd (cc)
 of_array (number x) ds n is h = absurd (cc)
 of_array (string s) ds n is h = absurd (cc)
-of_array (array xs) ds n is h = subst (λ o. items_depth (items_of (unwrap_or o [])) + 1 ≤ n) is (rw (items_of-list_of xs) (omega (arith, h)))
+of_array (array xs) ds n is h = subst (λ o. items_depth (items_of (unwrap_or o [])) + 1 ≤ n) is (rw (items_of-data_list xs) (omega (arith, h)))
 of_array (object ms) ds n is h = absurd (cc)
 
-of_member : (o : Option Data) (ds : List Data) (n : ℕ) → option_map list_of (option_and_then as_array o) ≡ Some ds → ((e : Data) → o ≡ Some e → depth e ≤ n)
+of_member : (o : Option Data) (ds : List Data) (n : ℕ) → option_map data_list (option_and_then as_array o) ≡ Some ds → ((e : Data) → o ≡ Some e → depth e ≤ n)
     → items_depth (items_of ds) + 1 ≤ n
 of_member None ds n is h = absurd (cc)
 of_member (Some e) ds n is h = of_array e ds n is (h e refl)

@@ -4,3 +4,4 @@ pub mod Lists
 pub mod QueryLaws
 pub mod ReadLaws
 pub mod RequestLaws
+pub mod SpelledLaws

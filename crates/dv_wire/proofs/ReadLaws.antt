@@ -4,9 +4,11 @@ use Rattle.std.specs.Prelude.{IsErrOf}
 use Rattle.serde_json.specs.Data.{Data}
 use Rattle.dv_form.specs.Forms.{object_of}
 use Rattle.dv_form.specs.Found.{fault_of}
+use Rattle.dv_form.specs.Members.{id_of_json}
 use Rattle.dv_form.specs.Places.{path_text}
 use Rattle.dv_form.specs.Walk as walk
 use Rattle.dv_form.specs.declared.fault.Fault.{Fault}
+use Rattle.dv_meta.specs.Reading.{at}
 use Rattle.dv_value.specs.Json.{json_of}
 use Rattle.dv_value.specs.declared.id.Id.{Id}
 use Rattle.dv_request.specs.declared.request.Request.{Request}
@@ -14,7 +16,6 @@ use Rattle.dv_wire.specs.declared.grammar.Rule.TheVariants as rule
 use Rattle.dv_wire.specs.declared.wire.WireFault.{WireFault}
 use Rattle.dv_wire.specs.declared.wire.WireFault.TheVariants.{Malformed, OutOfMemory}
 use Rattle.dv_wire.specs.Grammar.{rules}
-use Rattle.dv_wire.specs.Members.{id_at}
 use Rattle.dv_wire.specs.Requests.{request_of}
 use Rattle.dv_wire.specs.Reads.{Reading, spelled, faulty, with_fault, value_reads, reads}
 
@@ -42,7 +43,7 @@ unfolding with_fault
 fault_by None d fault is = absurd (cc)
 fault_by (Some found) d fault is = ap given_by (sym is)
 
-none_by : (o : Option walk.Found) (d : Data) → None ≡ option_map fault_of o → with_fault d o ≡ spelled (id_at (codes "caller") d) (request_of d)
+none_by : (o : Option walk.Found) (d : Data) → None ≡ option_map fault_of o → with_fault d o ≡ spelled (id_of_json (at "caller" d)) (request_of d)
 unfolding with_fault
 none_by None d is = refl
 none_by (Some found) d is = absurd (cc)
@@ -59,6 +60,6 @@ reads-fault bytes d fault is e = ap value_reads is ∙ fault_by (first d) d faul
 
 -- bytes that are a value without a fault
 pub reads-request : (bytes : List ℕ) (d : Data) (caller : Id) (request : Request) → json_of bytes ≡ Some d → None ≡ option_map fault_of (first d)
-    → caller ≡ id_at (codes "caller") d → request ≡ request_of d → reads bytes ≡ spelled caller request
+    → caller ≡ id_of_json (at "caller" d) → request ≡ request_of d → reads bytes ≡ spelled caller request
 unfolding reads value_reads
-reads-request bytes d caller request is e f g = ap value_reads is ∙ none_by (first d) d e ∙ sym (ap (λ c. spelled c request) f ∙ ap (spelled (id_at (codes "caller") d)) g)
+reads-request bytes d caller request is e f g = ap value_reads is ∙ none_by (first d) d e ∙ sym (ap (λ c. spelled c request) f ∙ ap (spelled (id_of_json (at "caller" d))) g)

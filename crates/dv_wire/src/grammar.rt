@@ -266,21 +266,11 @@ const MESSAGES: &[Case<Rule>] = &[
     },
     Case {
         word: "grant",
-        members: &[
-            needs!("table", TEXT),
-            needs!("id", ID),
-            needs!("principal", ID),
-            needs!("rights", INTEGER),
-        ],
+        members: GIVING,
     },
     Case {
         word: "modify",
-        members: &[
-            needs!("table", TEXT),
-            needs!("id", ID),
-            needs!("principal", ID),
-            needs!("rights", INTEGER),
-        ],
+        members: GIVING,
     },
     Case {
         word: "revoke",
@@ -407,6 +397,14 @@ const MESSAGES: &[Case<Rule>] = &[
         word: "takerole",
         members: &[needs!("role", ID), needs!("to", ID)],
     },
+];
+
+// What gives rights: a row, who gets them, and which.
+const GIVING: &[Member<Rule>] = &[
+    needs!("table", TEXT),
+    needs!("id", ID),
+    needs!("principal", ID),
+    needs!("rights", INTEGER),
 ];
 
 const PAGE_MEMBERS: &[Member<Rule>] = &[

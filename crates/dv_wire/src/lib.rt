@@ -5,11 +5,12 @@
 //! JSON that it stands for, which reads back to the same value.
 #![tactic(auto)]
 
+mod administering;
+mod asking;
 mod grammar;
 mod member;
 mod object;
 mod printing;
-mod privileges;
 mod querying;
 mod reading;
 #[cfg(test)]

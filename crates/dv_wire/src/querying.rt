@@ -3,11 +3,10 @@ ghost use Rattle.serde_json.specs.View.{view};
 ghost use Rattle.dv_wire.specs.Members.{list_at as items_under};
 ghost use Rattle.dv_wire.specs.Queries as say;
 
-use crate::member::{
-    flag_at, integer_if, integer_or, is_word_at, list_at, list_if, names_at, names_if, raws_at,
-    str_at, text_at, text_if,
-};
+use crate::member::{integer_or, list_at, list_if, raws_at, says_at, str_at};
+use dv_form::{read_at, read_given};
 use dv_query::{Condition, Filter, Join, Link, Operator, Order, PageStart, Part, Query};
+use dv_value::Text;
 use serde_json::Value as Json;
 use sqlite_items::Items;
 use std::alloc::{AllocError, Global};
@@ -18,8 +17,8 @@ pub(crate) fn query_of(alloc: Global, json: &Json) -> Result<Query, AllocError>
     ensures { IfOk result (λ query. query ≡ say.query_of (view json.now)) }
 {
     Ok(Query {
-        table: text_at(alloc, json, "table")?,
-        columns: names_if(alloc, json, "columns")?,
+        table: read_at(alloc, json, "table")?,
+        columns: read_given(alloc, json, "columns")?,
         filter: filter_at(alloc, json)?,
         links: links_of(alloc, list_at(json, "links"))?,
         orders: orders_of(alloc, list_at(json, "orders"))?,
@@ -32,7 +31,8 @@ pub(crate) fn query_of(alloc: Global, json: &Json) -> Result<Query, AllocError>
 fn part_of(alloc: Global, json: &Json) -> Result<Part, AllocError>
     ensures { IfOk result (λ part. part ≡ say.part_of (view json.now)) }
 {
-    if let Some(n) = integer_if(json, "top") {
+    let top: Option<i64> = read_given(alloc, json, "top")?;
+    if let Some(n) = top {
         return Ok(Part::Top(n));
     }
     match json.get("page") {
@@ -51,9 +51,9 @@ fn page_of(alloc: Global, json: &Json) -> Result<Part, AllocError>
     ensures { IfOk result (λ part. part ≡ say.page_of (view json.now)) }
 {
     Ok(Part::Page {
-        size: integer_or(5000, json, "size"),
+        size: integer_or(alloc, 5000, json, "size")?,
         from: start_of(alloc, json)?,
-        total: flag_at(json, "total"),
+        total: read_at(alloc, json, "total")?,
     })
 }
 
@@ -62,9 +62,10 @@ fn page_of(alloc: Global, json: &Json) -> Result<Part, AllocError>
 fn start_of(alloc: Global, json: &Json) -> Result<PageStart, AllocError>
     ensures { IfOk result (λ start. start ≡ say.start_of (view json.now)) }
 {
-    match text_if(alloc, json, "cookie")? {
+    let cookie: Option<Text> = read_given(alloc, json, "cookie")?;
+    match cookie {
         Some(cookie) => Ok(PageStart::Cookie(cookie)),
-        None => Ok(PageStart::Number(integer_or(1, json, "number"))),
+        None => Ok(PageStart::Number(integer_or(alloc, 1, json, "number")?)),
     }
 }
 
@@ -85,9 +86,9 @@ fn order_of(alloc: Global, json: &Json) -> Result<Order, AllocError>
     ensures { IfOk result (λ order. order ≡ say.order_of (view json.now)) }
 {
     Ok(Order {
-        column: text_at(alloc, json, "column")?,
-        link: text_if(alloc, json, "link")?,
-        descending: flag_at(json, "desc"),
+        column: read_at(alloc, json, "column")?,
+        link: read_given(alloc, json, "link")?,
+        descending: read_at(alloc, json, "desc")?,
     })
 }
 
@@ -108,7 +109,7 @@ fn filter_of(alloc: Global, json: &Json) -> Result<Filter, AllocError>
     ensures { IfOk result (λ filter. filter ≡ say.filter_of (view json.now)) }
 {
     Ok(Filter {
-        any: is_word_at("or", json, "op"),
+        any: says_at(json, "op", "or"),
         conditions: conditions_of(alloc, list_at(json, "conditions"))?,
         filters: filters_in(alloc, json)?,
     })
@@ -154,8 +155,8 @@ fn condition_of(alloc: Global, json: &Json) -> Result<Condition, AllocError>
     ensures { IfOk result (λ condition. condition ≡ say.condition_of (view json.now)) }
 {
     Ok(Condition {
-        column: text_at(alloc, json, "column")?,
-        link: text_if(alloc, json, "link")?,
+        column: read_at(alloc, json, "column")?,
+        link: read_given(alloc, json, "link")?,
         operator: operator_at(json),
         values: raws_at(alloc, json, "values")?,
     })
@@ -189,12 +190,12 @@ fn link_of(alloc: Global, json: &Json) -> Result<Link, AllocError>
     ensures { IfOk result (λ link. link ≡ say.link_of (view json.now)) }
 {
     Ok(Link {
-        table: text_at(alloc, json, "table")?,
-        from: text_at(alloc, json, "from")?,
-        to: text_at(alloc, json, "to")?,
+        table: read_at(alloc, json, "table")?,
+        from: read_at(alloc, json, "from")?,
+        to: read_at(alloc, json, "to")?,
         join: join_at(json),
-        alias: text_if(alloc, json, "alias")?,
-        columns: names_at(alloc, json, "columns")?,
+        alias: read_given(alloc, json, "alias")?,
+        columns: read_at(alloc, json, "columns")?,
         filter: filter_at(alloc, json)?,
         links: links_under(alloc, json)?,
     })

@@ -1,10 +1,13 @@
-ghost use Rattle.std.specs.Prelude.{◌≡◌, ℕ, List, IfOk, IsErrOf};
+ghost use Rattle.std.specs.Prelude.{◌≡◌, ℕ, List, Some, IfOk, IsErrOf};
+ghost use Rattle.serde_json.specs.Data.{Data};
+ghost use Rattle.dv_value.specs.Json.{json_of};
 ghost use Rattle.dv_wire.specs.Reads.{spelled, faulty, reads};
+ghost use Rattle.dv_wire.specs.Spelled.{IsSpelled};
 
 use crate::grammar::Rule;
-use crate::member::{empty_text, id_at};
+use crate::member::empty_text;
 use crate::reading::request_of;
-use dv_form::first_fault;
+use dv_form::{first_fault, read_at};
 use dv_request::Request;
 use dv_value::{Id, JsonFault, Text, read_json};
 use std::alloc::{AllocError, Global};
@@ -31,9 +34,11 @@ impl From<AllocError> for WireFault {
 
 /// Reads a line as a caller and a request. The line is JSON in UTF-8 (RFC 8259), an object with the caller's id, the
 /// message's word and the message's members; of several faults the first by the order of the tables is told. A member
-/// that is given twice counts with its last value.
+/// that is given twice counts with its last value. What is read has each member that its message needs, and each that
+/// it has in its form.
 pub fn read_request(alloc: Global, bytes: &[u8]) -> Result<(Id, Request), WireFault>
     ensures spelled { IfOk result (λ request. reads bytes.now ≡ spelled request.0 request.1) }
+    ensures members { IfOk result (λ _. (d : Data) → json_of bytes.now ≡ Some d → IsSpelled d) }
     ensures malformed { (place : List ℕ) → IsErrOf result (WireFault.Malformed place) → reads bytes.now ≡ faulty place }
 {
     let json = match read_json(alloc, bytes) {
@@ -43,6 +48,6 @@ pub fn read_request(alloc: Global, bytes: &[u8]) -> Result<(Id, Request), WireFa
     };
     match first_fault(alloc, &json, Rule::Request)? {
         Some(fault) => Err(WireFault::Malformed(fault.place)),
-        None => Ok((id_at(&json, "caller"), request_of(alloc, &json)?)),
+        None => Ok((read_at(alloc, &json, "caller")?, request_of(alloc, &json)?)),
     }
 }

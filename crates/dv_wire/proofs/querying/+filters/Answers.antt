@@ -6,7 +6,7 @@ use Rattle.dv_wire.proofs.QueryLaws.{filter_made}
 use Rattle.dv_wire.proofs.querying.+filters.Goals as goal
 
 pub filter_of-returns : goal.filter_of-returns
-filter_of-returns t c = filter_made (view c.args.json.now) _ _ _ c.is_word_at.ensures (c.in_ok-conditions_of.ensures ∙ ap (map condition_of) c.list_at.ensures) c.in_ok-filters_in.ensures
+filter_of-returns t c = filter_made (view c.args.json.now) _ _ _ c.says_at.ensures (c.in_ok-conditions_of.ensures ∙ ap (map condition_of) c.list_at.ensures) c.in_ok-filters_in.ensures
 
 pub filters_in-filters_of-requires : goal.filters_in-filters_of-requires
 filters_in-filters_of-requires t c = (omega (arith, c.decreases, list_below (codes "filters") (view c.args.json.now) (map view c.in-Some.items.now) (sym c.in-Some.ensures)), tt)

@@ -1,7 +1,0 @@
-use Rattle.std.proofs.Common.{◌≡◌, take, map}
-use Rattle.serde_json.specs.View.{view}
-use Rattle.dv_wire.specs.Requests.{entry_of}
-use Rattle.dv_wire.proofs.privileges.entries_of.Given as goal
-
-abbrev pub invariant-loop-item : goal.invariant-loop-item
-invariant-loop-item l = l.entries ≡ map entry_of (map view (take l.item-index l.items))
