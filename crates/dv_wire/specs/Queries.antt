@@ -1,5 +1,5 @@
 -- The query that an object without a fault is. What is missing has its default: all columns, filters that hold of every row, inner links, ascending orders, the first page of 5,000 rows.
-use Rattle.std.specs.Prelude.{ℕ, ℤ, pos, List, false, Option, Some, None, map, option_map, option_and_then, unwrap_or, codes}
+use Rattle.std.specs.Prelude.{ℕ, pos, List, false, Option, Some, None, map, option_map, option_and_then, unwrap_or, codes}
 use Rattle.serde_json.specs.Data.{Data}
 use Rattle.serde_json.specs.Find.{get}
 use Rattle.dv_form.specs.Members.{flag_of, integer_of, text_of}

@@ -1,5 +1,5 @@
 -- What a request has that is read: each member that must be there, and of those that are there each in its form.
-use Rattle.std.specs.Prelude.{◌≡◌, List, Bool, true, not, Option, Some, None}
+use Rattle.std.specs.Prelude.{◌≡◌, List, Bool, true, not, Some, None}
 use Rattle.std.specs.List.{list_all}
 use Rattle.std.specs.Option.{is_some}
 use Rattle.serde_json.specs.Data.{Data}
