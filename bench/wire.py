@@ -107,32 +107,44 @@ fn values_printed(alloc: Global, value: &Json) -> Result<usize, AllocError> {
     Ok(bytes)
 }
 
+fn time_requests(rt: &HostRuntime, line: &str) -> io::Result<()> {
+    let start = Instant::now(rt)?;
+    let read = requests_read(rt.alloc(), line);
+    let micros = start.elapsed(rt)?.as_micros();
+    println!(rt; "requests_read {read} {micros}")
+}
+
+fn time_values(rt: &HostRuntime, line: &str) -> io::Result<()> {
+    let start = Instant::now(rt)?;
+    let read = values_read(rt.alloc(), line);
+    let micros = start.elapsed(rt)?.as_micros();
+    println!(rt; "values_read {read} {micros}")
+}
+
+fn time_page(rt: &HostRuntime, rows: u32) -> io::Result<()> {
+    let reply = page(rt.alloc(), rows)?;
+    let start = Instant::now(rt)?;
+    let bytes = replies_printed(rt.alloc(), &reply)?;
+    let micros = start.elapsed(rt)?.as_micros();
+    println!(rt; "replies_printed_{rows} {bytes} {micros}")
+}
+
+fn time_json(rt: &HostRuntime, rows: u32) -> io::Result<()> {
+    let value = json(rt.alloc(), rows)?;
+    let start = Instant::now(rt)?;
+    let bytes = values_printed(rt.alloc(), &value)?;
+    let micros = start.elapsed(rt)?.as_micros();
+    println!(rt; "values_printed_{rows} {bytes} {micros}")
+}
+
 fn main(rt: HostRuntime) -> io::Result<()> {
-    let alloc = rt.alloc();
-    let line = io::read_to_string(alloc, rt.stdin())?;
-    let start = Instant::now(&rt)?;
-    let read = requests_read(alloc, line.as_str());
-    println!(rt; "requests_read {read} {}", start.elapsed(&rt)?.as_micros())?;
-    let start = Instant::now(&rt)?;
-    let read = values_read(alloc, line.as_str());
-    println!(rt; "values_read {read} {}", start.elapsed(&rt)?.as_micros())?;
-    for rows in [2_500u32, 5_000, 10_000] {
-        let reply = page(alloc, rows)?;
-        let start = Instant::now(&rt)?;
-        let bytes = replies_printed(alloc, &reply)?;
-        println!(rt;
-            "replies_printed_{rows} {bytes} {}",
-            start.elapsed(&rt)?.as_micros()
-        )?;
-    }
-    let value = json(alloc, 5_000)?;
-    let start = Instant::now(&rt)?;
-    let bytes = values_printed(alloc, &value)?;
-    println!(rt;
-        "values_printed_5000 {bytes} {}",
-        start.elapsed(&rt)?.as_micros()
-    )?;
-    Ok(())
+    let line = io::read_to_string(rt.alloc(), rt.stdin())?;
+    time_requests(&rt, line.as_str())?;
+    time_values(&rt, line.as_str())?;
+    time_page(&rt, 2_500)?;
+    time_page(&rt, 5_000)?;
+    time_page(&rt, 10_000)?;
+    time_json(&rt, 5_000)
 }
 """
 
