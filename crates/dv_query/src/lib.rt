@@ -8,6 +8,8 @@ mod filter;
 mod link;
 mod operator;
 mod query;
+#[cfg(test)]
+mod tests;
 
 pub use filter::{Condition, Filter};
 pub use link::{Join, Link};

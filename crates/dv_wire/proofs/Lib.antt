@@ -1,0 +1,7 @@
+pub mod DeepLaws
+pub mod Floats
+pub mod Lists
+pub mod QueryLaws
+pub mod ReadLaws
+pub mod RequestLaws
+pub mod SpelledLaws

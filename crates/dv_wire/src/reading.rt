@@ -1,0 +1,111 @@
+ghost use Rattle.std.specs.Prelude.{◌≡◌, [], map, IfOk, codes};
+ghost use Rattle.serde_json.specs.View.{view};
+ghost use Rattle.dv_wire.specs.Members.{list_at as items_under};
+ghost use Rattle.dv_wire.specs.Requests as say;
+
+use crate::member::{list_if, str_at};
+use crate::verb::Verb;
+use crate::{administering as admin, asking as ask};
+use dv_form::read_at;
+use dv_request::Request;
+use serde_json::Value as Json;
+use sqlite_items::Items;
+use std::alloc::{AllocError, Global};
+
+/// The request that an object without a fault is.
+#[cycle(requests)]
+pub(crate) fn request_of(alloc: Global, json: &Json) -> Result<Request, AllocError>
+    ensures { IfOk result (λ request. request ≡ say.request_of (view json.now)) }
+{
+    let requests = requests_in(alloc, json)?;
+    Ok(request_for(alloc, verb_at(json), json, requests)?)
+}
+
+// The requests in a batch.
+#[cycle(requests)]
+fn requests_in(alloc: Global, json: &Json) -> Result<Items<Request>, AllocError>
+    ensures { IfOk result (λ requests. requests ≡ map say.request_of (items_under (codes "requests") (view json.now))) }
+{
+    match list_if(json, "requests") {
+        Some(items) => Ok(requests_of(alloc, items)?),
+        None => Ok(Items::new(alloc)),
+    }
+}
+
+// The requests that items are.
+#[cycle(requests)]
+fn requests_of(alloc: Global, items: &[Json]) -> Result<Items<Request>, AllocError>
+    ensures { IfOk result (λ requests. requests ≡ map say.request_of (map view items.now)) }
+{
+    let mut requests = Items::new(alloc);
+    for item in items {
+        requests.push(request_of(alloc, item)?)?;
+    }
+    Ok(requests)
+}
+
+// What a request asks.
+#[tactic(auto, unfolding(crate::specs::Requests::verb_at))]
+fn verb_at(json: &Json) -> Verb
+    ensures { result ≡ say.verb_at (view json.now) }
+{
+    match str_at(json, "do") {
+        Some(word) => Verb::parse(word).unwrap_or(Verb::WhoAmI),
+        None => Verb::WhoAmI,
+    }
+}
+
+// The request that asks this, with the requests in it.
+#[tactic(auto, unfolding(crate::specs::Requests::request_for))]
+fn request_for(
+    alloc: Global,
+    verb: Verb,
+    json: &Json,
+    requests: Items<Request>,
+) -> Result<Request, AllocError>
+    ensures { IfOk result (λ request. request ≡ say.request_for verb (view json.now) requests) }
+{
+    match verb {
+        Verb::Create => Ok(ask::create(alloc, json)?),
+        Verb::Retrieve => Ok(ask::retrieve(alloc, json)?),
+        Verb::Update => Ok(ask::update(alloc, json)?),
+        Verb::Delete => Ok(ask::delete(alloc, json)?),
+        Verb::Assign => Ok(ask::assign(alloc, json)?),
+        Verb::Grant => Ok(ask::grant(alloc, json)?),
+        Verb::Modify => Ok(ask::modify(alloc, json)?),
+        Verb::Revoke => Ok(ask::revoke(alloc, json)?),
+        Verb::Access => Ok(ask::access(alloc, json)?),
+        Verb::Shares => Ok(ask::shares(alloc, json)?),
+        Verb::Query => Ok(ask::query(alloc, json)?),
+        Verb::Changes => Ok(ask::changes(alloc, json)?),
+        Verb::Rollup => Ok(ask::rollup(alloc, json)?),
+        Verb::WhoAmI => Ok(Request::WhoAmI),
+        Verb::RollupJob => Ok(Request::RollupJob),
+        Verb::Trim => Ok(ask::trim(json)),
+        Verb::Multiple => Ok(multiple(alloc, json, requests)?),
+        Verb::Transaction => Ok(Request::Transaction { requests }),
+        Verb::AddUnit => Ok(admin::add_unit(alloc, json)?),
+        Verb::MoveUnit => Ok(admin::move_unit(alloc, json)?),
+        Verb::AddUser => Ok(admin::add_user(alloc, json)?),
+        Verb::MoveUser => Ok(admin::move_user(alloc, json)?),
+        Verb::SetEnabled => Ok(admin::set_enabled(alloc, json)?),
+        Verb::AddTeam => Ok(admin::add_team(alloc, json)?),
+        Verb::AddMember => Ok(admin::add_member(alloc, json)?),
+        Verb::RemoveMember => Ok(admin::remove_member(alloc, json)?),
+        Verb::AddRole => Ok(admin::add_role(alloc, json)?),
+        Verb::SetPrivileges => Ok(admin::set_privileges(alloc, json)?),
+        Verb::GiveRole => Ok(admin::give_role(alloc, json)?),
+        Verb::TakeRole => Ok(admin::take_role(alloc, json)?),
+    }
+}
+
+#[tactic(auto, unfolding(crate::specs::Requests::request_for))]
+fn multiple(alloc: Global, json: &Json, requests: Items<Request>) -> Result<Request, AllocError>
+    ensures { IfOk result (λ request. request ≡ say.request_for Verb.Multiple (view json.now) requests) }
+{
+    let continue_ = read_at(alloc, json, "continue")?;
+    Ok(Request::Multiple {
+        requests,
+        continue_,
+    })
+}
