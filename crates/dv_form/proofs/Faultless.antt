@@ -1,5 +1,5 @@
 -- What the walk's finding no fault says of a value's parts.
-use Rattle.std.proofs.Common.{◌≡◌, ◌∙◌, sym, refl, ap, subst, ℕ, zero, suc, ◌≤◌, ltb, arith, Bool, true, false, cond, List, [], ◌∷◌, length, Option, Some, None}
+use Rattle.std.proofs.Common.{◌≡◌, refl, ap, subst, ℕ, zero, suc, ◌≤◌, ltb, arith, Bool, true, false, cond, length, Option, Some, None}
 use Rattle.std.specs.List.{slice_get}
 use Rattle.std.proofs.lemmas.Bool.{ltb-false}
 use Rattle.std.specs.Option.{option_map, option_or, unwrap_or}
@@ -9,9 +9,8 @@ use Rattle.serde_json.specs.Find.{get}
 use Rattle.dv_form.specs.Forms.{Object, Member, Form}
 use Rattle.dv_form.specs.Forms as plain
 use Rattle.dv_form.specs.Members.{data_list, list_of, members_in}
-use Rattle.dv_form.specs.Places.{Step, into_item}
-use Rattle.dv_form.specs.Walk.{Found, inside, here, is_barred, is_over, further, judged_member, judged_object, form_fault, first_fault, items_fault, fault_at}
-use Rattle.dv_form.specs.declared.fault.FaultKind.TheVariants.{Wrong, TooLong}
+use Rattle.dv_form.specs.Places.{Step}
+use Rattle.dv_form.specs.Walk.{Found, inside, is_barred, is_over, further, judged_member, judged_object, form_fault, first_fault, items_fault, fault_at}
 use Rattle.dv_form.proofs.Faults.{fault_at_get}
 
 pub or_none : {A : Type 0} (x y : Option A) → option_or x y ≡ None → (x ≡ None) × (y ≡ None)
