@@ -91,15 +91,25 @@ fn json(alloc: Global, rows: u32) -> Result<Json, AllocError> {
     Ok(Json::Array(list))
 }
 
-fn replies_printed(alloc: Global, reply: &Reply) -> Result<usize, AllocError> {
+fn pages_made(alloc: Global, rows: u32) -> Result<usize, AllocError> {
+    match page(alloc, rows)? {
+        Reply::Page { rows, .. } => Ok(rows.len()),
+        _ => Ok(0),
+    }
+}
+
+// Makes the page once, which is timed alone too, and prints it often.
+fn replies_printed(alloc: Global, rows: u32) -> Result<usize, AllocError> {
+    let reply = page(alloc, rows)?;
     let mut bytes = 0usize;
     for _ in 0..TIMES {
-        bytes = bytes.saturating_add(print_reply(alloc, reply)?.len());
+        bytes = bytes.saturating_add(print_reply(alloc, &reply)?.len());
     }
     Ok(bytes)
 }
 
-fn values_printed(alloc: Global, value: &Json) -> Result<usize, AllocError> {
+fn values_printed(alloc: Global, rows: u32) -> Result<usize, AllocError> {
+    let value = json(alloc, rows)?;
     let mut bytes = 0usize;
     for _ in 0..TIMES {
         bytes = bytes.saturating_add(value.to_vec(alloc)?.len());
@@ -121,18 +131,23 @@ fn time_values(rt: &HostRuntime, line: &str) -> io::Result<()> {
     println!(rt; "values_read {read} {micros}")
 }
 
-fn time_page(rt: &HostRuntime, rows: u32) -> io::Result<()> {
-    let reply = page(rt.alloc(), rows)?;
+fn time_making(rt: &HostRuntime, rows: u32) -> io::Result<()> {
     let start = Instant::now(rt)?;
-    let bytes = replies_printed(rt.alloc(), &reply)?;
+    let made = pages_made(rt.alloc(), rows)?;
+    let micros = start.elapsed(rt)?.as_micros();
+    println!(rt; "pages_made_{rows} {made} {micros}")
+}
+
+fn time_page(rt: &HostRuntime, rows: u32) -> io::Result<()> {
+    let start = Instant::now(rt)?;
+    let bytes = replies_printed(rt.alloc(), rows)?;
     let micros = start.elapsed(rt)?.as_micros();
     println!(rt; "replies_printed_{rows} {bytes} {micros}")
 }
 
 fn time_json(rt: &HostRuntime, rows: u32) -> io::Result<()> {
-    let value = json(rt.alloc(), rows)?;
     let start = Instant::now(rt)?;
-    let bytes = values_printed(rt.alloc(), &value)?;
+    let bytes = values_printed(rt.alloc(), rows)?;
     let micros = start.elapsed(rt)?.as_micros();
     println!(rt; "values_printed_{rows} {bytes} {micros}")
 }
@@ -141,6 +156,7 @@ fn main(rt: HostRuntime) -> io::Result<()> {
     let line = io::read_to_string(rt.alloc(), rt.stdin())?;
     time_requests(&rt, line.as_str())?;
     time_values(&rt, line.as_str())?;
+    time_making(&rt, 5_000)?;
     time_page(&rt, 2_500)?;
     time_page(&rt, 5_000)?;
     time_page(&rt, 10_000)?;
