@@ -1,12 +1,12 @@
 -- What is read of the items of a list is what is read of each by itself.
-use Rattle.std.proofs.Common.{◌≡◌, ℕ, ◌+◌, ◌*◌, ◌≤◌, ◌<◌, suc, max, List, [], ◌∷◌, map, get_or, length, Option, Some, None, option_map, option_and_then, unwrap_or, refl, sym, ◌∙◌, ap, subst, zero, arith, Ordering, Less, Equal, Greater}
+use Rattle.std.proofs.Common.{◌≡◌, ℕ, ◌+◌, ◌≤◌, ◌<◌, suc, max, List, [], ◌∷◌, map, get_or, length, Option, Some, None, option_map, option_and_then, unwrap_or, refl, ap, subst, zero, arith, Ordering, Less, Equal, Greater}
 use Rattle.std.specs.Ordering.{nat_cmp, match_ordering}
 use Rattle.std.specs.Cmp.Lexicographic.{slice_cmp}
 use Rattle.serde_json.specs.Data.{Data, null, boolean, number, string, array, object, Items, no_items, item, Members, no_members, member, depth, items_depth, members_depth}
-use Rattle.serde_json.specs.Find.{get, get_member, as_array}
+use Rattle.serde_json.specs.Find.{get_member, as_array}
 use Rattle.serde_json.specs.View.{items_of, view}
 use Rattle.serde_json.specs.declared.value.Value.{Value}
-use Rattle.dv_wire.specs.Deep.{deep, deep_under, deep_list, deep_each, nothing}
+use Rattle.dv_wire.specs.Deep.{deep, deep_under, deep_list, deep_each}
 use Rattle.dv_form.specs.Members.{data_list}
 use Rattle.dv_wire.specs.Members.{list_if, list_at}
 

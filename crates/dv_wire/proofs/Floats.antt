@@ -1,5 +1,5 @@
 -- No reply has a float in it.
-use Rattle.std.proofs.Common.{◌≡◌, ℕ, ℤ, pos, negsuc, List, [], ◌∷◌, map, Bool, true, false, ◌||◌, Option, Some, None, refl, sym, ◌∙◌, ap, subst, encode_utf8_all, Ordering, Less, Equal, Greater}
+use Rattle.std.proofs.Common.{◌≡◌, ℕ, List, [], ◌∷◌, map, Bool, false, Option, Some, None, refl, ◌∙◌, ap, subst}
 use Rattle.serde_json.specs.Data.{Data, Members}
 use Rattle.serde_json.specs.View.{items_of}
 use Rattle.serde_json.specs.Written.{has_float, members_have_float, items_have_float}
@@ -13,7 +13,6 @@ use Rattle.dv_request.specs.declared.reply.Change.TheVariants.{Row, Removed}
 use Rattle.dv_request.specs.declared.reply.Share.{Share}
 use Rattle.dv_request.specs.declared.reply.Reply.{Reply, map-Reply}
 use Rattle.dv_request.specs.declared.reply.Reply.TheOpen.{Reply-F}
-use Rattle.dv_request.specs.declared.reply.Reply.TheViews.{roll-Reply}
 use Rattle.dv_request.specs.declared.reply.Reply.TheFolds.{fold-Reply, fold-roll-Reply, ind-Reply}
 use Rattle.dv_wire.specs.Printed.{share_data, change_data, bool_or_null, number_or_null, text_or_null, with_item, refused_data, reply_step, reply_data}
 

@@ -1,5 +1,5 @@
 -- A filter and a link are made of their parts and of those in them.
-use Rattle.std.proofs.Common.{◌≡◌, ℕ, List, Bool, Option, option_map, map, codes, refl, sym}
+use Rattle.std.proofs.Common.{◌≡◌, ℕ, List, Bool, Option, option_map, map, codes, sym}
 use Rattle.serde_json.specs.Data.{Data}
 use Rattle.serde_json.specs.Find.{get}
 use Rattle.dv_form.specs.Members.{text_of}

@@ -1,11 +1,10 @@
 -- How bytes are read, case by case.
-use Rattle.std.proofs.Common.{◌≡◌, ℕ, List, [], Option, Some, None, option_map, Result, Ok, Err, chars, codes, refl, ap, sym, ◌∙◌}
+use Rattle.std.proofs.Common.{◌≡◌, ℕ, List, [], Option, Some, None, option_map, Result, Ok, Err, refl, ap, sym, ◌∙◌}
 use Rattle.std.specs.Prelude.{IsErrOf}
 use Rattle.serde_json.specs.Data.{Data}
 use Rattle.dv_form.specs.Forms.{object_of}
 use Rattle.dv_form.specs.Found.{fault_of}
 use Rattle.dv_form.specs.Members.{id_of_json}
-use Rattle.dv_form.specs.Places.{path_text}
 use Rattle.dv_form.specs.Walk as walk
 use Rattle.dv_form.specs.declared.fault.Fault.{Fault}
 use Rattle.dv_meta.specs.Reading.{at}

@@ -1,5 +1,5 @@
 -- A request is made of its members and of the requests in it.
-use Rattle.std.proofs.Common.{◌≡◌, ℕ, List, map, codes, sym, ◌∙◌, ap}
+use Rattle.std.proofs.Common.{◌≡◌, List, map, codes, sym, ◌∙◌}
 use Rattle.serde_json.specs.Data.{Data}
 use Rattle.dv_request.specs.declared.request.Request.{Request}
 use Rattle.dv_wire.specs.declared.verb.Verb.{Verb}

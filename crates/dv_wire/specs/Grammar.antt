@@ -1,5 +1,5 @@
 -- What a request must look like. Each message has its line: its word, and its members in the order in which they are looked at.
-use Rattle.std.specs.Prelude.{ℕ, List, [], ◌∷◌, map, true, false, pos, Option, Some, None, codes}
+use Rattle.std.specs.Prelude.{ℕ, List, [], ◌∷◌, map, true, false, pos, Some, None, codes}
 use Rattle.dv_form.specs.Forms.{Spelling, any_id, any_text, a_flag, any_integer, integer_from, word_among, any_raw, a_version, a_token, Form, value, raw_values, object_of, tuple_of, list_of, given, Member, Case, Object}
 use Rattle.dv_wire.specs.declared.grammar.Rule.{Rule}
 use Rattle.dv_wire.specs.declared.grammar.Rule.TheVariants.{Request, Item, Page, Filter, Condition, Link, Order}
