@@ -86,13 +86,9 @@ pub case_nowhere : {R : Type 0} (word : List ℕ) → walk.case_of {R = R} word 
 unfolding walk.case_of
 case_nowhere word = refl
 
-pub is_barred_given : {R : Type 0} (d own : Data) (m : Member R) → get m.name.now d ≡ Some own → is_barred d (member_of m) ≡ list_any (λ bar. is_barred_by d own (bar_of bar)) m.barred.now
+is_barred_given : {R : Type 0} (d own : Data) (m : Member R) → get m.name.now d ≡ Some own → is_barred d (member_of m) ≡ list_any (λ bar. is_barred_by d own (bar_of bar)) m.barred.now
 unfolding is_barred
 is_barred_given d own m e = rw e (list_any_map (is_barred_by d own) bar_of m.barred.now)
-
-pub is_barred_missing : {R : Type 0} (d : Data) (m : Member R) → get m.name.now d ≡ None → is_barred d (member_of m) ≡ false
-unfolding is_barred
-is_barred_missing d m e = rw e refl
 
 pub members_in_object : (d : Data) (ms : Members) → as_object d ≡ Some ms → members_in d ≡ ms
 unfolding members_in
@@ -320,13 +316,13 @@ pub member_absent : {R : Type 0} (tables : R → Object R) (d : Data) (m : Membe
 unfolding judged_member
 member_absent tables d m e n = rw (fault_at_get tables d m.name.now (form_of m.form) None e, n) refl
 
-pub member_barred : {R : Type 0} (tables : R → Object R) (d v : Data) (m : Member R) → get m.name.now d ≡ Some v → is_barred d (member_of m) ≡ true → member_fault d (fault_at tables (members_in d)) (member_of m) ≡ Some (inside (into_member m.name.now) (here Wrong))
+pub member_barred : {R : Type 0} (tables : R → Object R) (d v : Data) (m : Member R) → get m.name.now d ≡ Some v → list_any (λ bar. is_barred_by d v (bar_of bar)) m.barred.now ≡ true → member_fault d (fault_at tables (members_in d)) (member_of m) ≡ Some (inside (into_member m.name.now) (here Wrong))
 unfolding judged_member
-member_barred tables d v m e b = rw (fault_at_get tables d m.name.now (form_of m.form) (Some v) e, b) refl
+member_barred tables d v m e b = rw (fault_at_get tables d m.name.now (form_of m.form) (Some v) e, is_barred_given d v m e, b) refl
 
-pub member_inside : {R : Type 0} (tables : R → Object R) (d v : Data) (m : Member R) → get m.name.now d ≡ Some v → is_barred d (member_of m) ≡ false → member_fault d (fault_at tables (members_in d)) (member_of m) ≡ option_map (inside (into_member m.name.now)) (first_fault tables v (form_of m.form))
+pub member_inside : {R : Type 0} (tables : R → Object R) (d v : Data) (m : Member R) → get m.name.now d ≡ Some v → list_any (λ bar. is_barred_by d v (bar_of bar)) m.barred.now ≡ false → member_fault d (fault_at tables (members_in d)) (member_of m) ≡ option_map (inside (into_member m.name.now)) (first_fault tables v (form_of m.form))
 unfolding judged_member
-member_inside tables d v m e b = rw (fault_at_get tables d m.name.now (form_of m.form) (Some v) e, b) refl
+member_inside tables d v m e b = rw (fault_at_get tables d m.name.now (form_of m.form) (Some v) e, is_barred_given d v m e, b) refl
 
 pub object_undecided : {R : Type 0} (t : Object R) (d : Data) (look : List ℕ → plain.Form R → Option (Option walk.Found)) → further t d ≡ None → object_fault t d look ≡ members_fault d look t.members
 unfolding judged_object

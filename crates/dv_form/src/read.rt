@@ -4,7 +4,7 @@ ghost use Rattle.serde_json.specs.Find.{get};
 ghost use Rattle.serde_json.specs.View.{view};
 ghost use Rattle.dv_form.specs.Members as say;
 
-use dv_value::{Id, Text, Values};
+use dv_value::{Id, Text, Values, items_with_capacity};
 use serde_json::Value as Json;
 use sqlite_items::Items;
 use std::alloc::{AllocError, Global};
@@ -171,7 +171,7 @@ fn items_in(json: &Json) -> &[Json]
 fn read_items<T: FromJson>(alloc: Global, items: &[Json]) -> Result<Items<T>, AllocError>
     ensures { IfOk result (λ list. list ≡ map T.of_json (map view items.now)) }
 {
-    let mut list = Items::new(alloc);
+    let mut list = items_with_capacity(alloc, items.len())?;
     for item in items {
         list.push(T::from_json(alloc, item)?)?;
     }

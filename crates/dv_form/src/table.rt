@@ -83,18 +83,8 @@ fn has_name<R>(members: &[Member<R>], name: &str) -> bool
     members.iter().any(|member| member.name == name)
 }
 
-/// Whether one of the bars of a member that is given holds.
-pub(crate) fn is_barred<R>(json: &Json, member: &Member<R>) -> bool
-    ensures { result ≡ walk.is_barred (view json.now) (plain.member_of member.now) }
-{
-    match json.get(member.name) {
-        Some(own) => is_barred_by_one(json, own, member.barred),
-        None => false,
-    }
-}
-
-// Whether one of these bars holds.
-fn is_barred_by_one(json: &Json, own: &Json, bars: &[Bar]) -> bool
+/// Whether one of these bars holds for the value of a member of an object.
+pub(crate) fn is_barred(json: &Json, own: &Json, bars: &[Bar]) -> bool
     ensures { result ≡ list_any (λ bar. walk.is_barred_by (view json.now) (view own.now) (plain.bar_of bar)) bars.now }
 {
     bars.iter().any(|bar| bar.holds(json, own))

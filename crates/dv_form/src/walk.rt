@@ -161,7 +161,7 @@ fn member_fault<G: Grammar>(
 {
     match json.get(member.name) {
         Some(value) => {
-            if is_barred(json, member) {
+            if is_barred(json, value, member.barred) {
                 return wrong_member(alloc, member.name);
             }
             match value_fault(alloc, value, &member.form)? {

@@ -9,6 +9,7 @@
 #![tactic(auto)]
 
 mod amount;
+mod capacity;
 mod id;
 mod json;
 mod kind;
@@ -29,6 +30,7 @@ mod value;
 mod what;
 
 pub use amount::{print_amount, read_amount};
+pub use capacity::items_with_capacity;
 pub use id::Id;
 pub use json::{JsonFault, add_member, read_json};
 pub use kind::Kind;

@@ -2,6 +2,7 @@ ghost use Rattle.std.specs.Prelude.{◌≡◌, ◌∷◌, [], ◌++◌, IfOk, If
 ghost use Rattle.serde_json.specs.View.{view, members_view};
 ghost use Rattle.dv_value.specs.Raws.{raw_of, values_of, value_of, HasAscendingNames};
 
+use crate::capacity::items_with_capacity;
 use crate::text::Text;
 use serde_json::{Map, Value as Json};
 use sqlite_items::Items;
@@ -91,7 +92,7 @@ impl Values {
         ensures values { IfOk result (λ values. values ≡ values_of (members_view members.now.entries)) }
         ensures ascending { IfOk result (λ values. IfSome values HasAscendingNames) }
     {
-        let mut values = Values::new(alloc);
+        let mut values = Values::with_capacity(alloc, members.len())?;
         for (name, json) in members.iter() {
             match Raw::from_json(alloc, json)? {
                 Some(value) => values.push(Text::from_str(alloc, name.as_str())?, value)?,
@@ -115,11 +116,20 @@ impl Values {
     pub fn copy(&self, alloc: Global) -> Result<Values, AllocError>
         ensures { IfOk result (λ copied. copied ≡ self.now) }
     {
-        let mut values = Values::new(alloc);
+        let mut values = Values::with_capacity(alloc, self.items.len())?;
         for (name, value) in self.as_slice() {
             values.push(name.copy(alloc)?, value.copy(alloc)?)?;
         }
         Ok(values)
+    }
+
+    // No values, with room for so many.
+    fn with_capacity(alloc: Global, capacity: usize) -> Result<Values, AllocError>
+        ensures { IfOk result (λ values. values ≡ []) }
+    {
+        Ok(Values {
+            items: items_with_capacity(alloc, capacity)?,
+        })
     }
 
     // Adds a value at the end.

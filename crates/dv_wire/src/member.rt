@@ -6,7 +6,7 @@ ghost use Rattle.serde_json.specs.View.{view};
 ghost use Rattle.dv_wire.specs.Members as say;
 
 use dv_form::read_given;
-use dv_value::{Raw, Text, Token, read_version};
+use dv_value::{Raw, Text, Token, items_with_capacity, read_version};
 use serde_json::Value as Json;
 use sqlite_items::Items;
 use std::alloc::{AllocError, Global};
@@ -104,7 +104,7 @@ pub(crate) fn raws_at(alloc: Global, json: &Json, name: &str) -> Result<Items<Ra
 fn raws_of(alloc: Global, items: &[Json]) -> Result<Items<Raw>, AllocError>
     ensures { IfOk result (λ raws. raws ≡ map say.raw_item (map view items.now)) }
 {
-    let mut raws = Items::new(alloc);
+    let mut raws = items_with_capacity(alloc, items.len())?;
     for item in items {
         raws.push(raw_item(alloc, item)?)?;
     }

@@ -6,7 +6,7 @@ ghost use Rattle.dv_wire.specs.Queries as say;
 use crate::member::{integer_or, list_at, list_if, raws_at, says_at, str_at};
 use dv_form::{read_at, read_given};
 use dv_query::{Condition, Filter, Join, Link, Operator, Order, PageStart, Part, Query};
-use dv_value::Text;
+use dv_value::{Text, items_with_capacity};
 use serde_json::Value as Json;
 use sqlite_items::Items;
 use std::alloc::{AllocError, Global};
@@ -73,7 +73,7 @@ fn start_of(alloc: Global, json: &Json) -> Result<PageStart, AllocError>
 fn orders_of(alloc: Global, items: &[Json]) -> Result<Items<Order>, AllocError>
     ensures { IfOk result (λ orders. orders ≡ map say.order_of (map view items.now)) }
 {
-    let mut orders = Items::new(alloc);
+    let mut orders = items_with_capacity(alloc, items.len())?;
     for item in items {
         orders.push(order_of(alloc, item)?)?;
     }
@@ -131,7 +131,7 @@ fn filters_in(alloc: Global, json: &Json) -> Result<Items<Filter>, AllocError>
 fn filters_of(alloc: Global, items: &[Json]) -> Result<Items<Filter>, AllocError>
     ensures { IfOk result (λ filters. filters ≡ map say.filter_of (map view items.now)) }
 {
-    let mut filters = Items::new(alloc);
+    let mut filters = items_with_capacity(alloc, items.len())?;
     for item in items {
         filters.push(filter_of(alloc, item)?)?;
     }
@@ -142,7 +142,7 @@ fn filters_of(alloc: Global, items: &[Json]) -> Result<Items<Filter>, AllocError
 fn conditions_of(alloc: Global, items: &[Json]) -> Result<Items<Condition>, AllocError>
     ensures { IfOk result (λ conditions. conditions ≡ map say.condition_of (map view items.now)) }
 {
-    let mut conditions = Items::new(alloc);
+    let mut conditions = items_with_capacity(alloc, items.len())?;
     for item in items {
         conditions.push(condition_of(alloc, item)?)?;
     }
@@ -217,7 +217,7 @@ fn links_under(alloc: Global, json: &Json) -> Result<Items<Link>, AllocError>
 fn links_of(alloc: Global, items: &[Json]) -> Result<Items<Link>, AllocError>
     ensures { IfOk result (λ links. links ≡ map say.link_of (map view items.now)) }
 {
-    let mut links = Items::new(alloc);
+    let mut links = items_with_capacity(alloc, items.len())?;
     for item in items {
         links.push(link_of(alloc, item)?)?;
     }

@@ -8,6 +8,7 @@ use crate::verb::Verb;
 use crate::{administering as admin, asking as ask};
 use dv_form::read_at;
 use dv_request::Request;
+use dv_value::items_with_capacity;
 use serde_json::Value as Json;
 use sqlite_items::Items;
 use std::alloc::{AllocError, Global};
@@ -37,7 +38,7 @@ fn requests_in(alloc: Global, json: &Json) -> Result<Items<Request>, AllocError>
 fn requests_of(alloc: Global, items: &[Json]) -> Result<Items<Request>, AllocError>
     ensures { IfOk result (λ requests. requests ≡ map say.request_of (map view items.now)) }
 {
-    let mut requests = Items::new(alloc);
+    let mut requests = items_with_capacity(alloc, items.len())?;
     for item in items {
         requests.push(request_of(alloc, item)?)?;
     }

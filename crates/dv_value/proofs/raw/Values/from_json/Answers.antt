@@ -9,7 +9,7 @@ use Rattle.dv_value.proofs.AscendingNames.{names_ascend}
 use Rattle.dv_value.proofs.raw.Values.from_json.Goals as goal
 
 pub loop-name-init : goal.loop-name-init
-loop-name-init c = rw (c.into_iter-name-iterator.ensures.into_iter_gives, c.iter-name-items.ensures.rest, c.new-values.ensures) (option_map-nil _)
+loop-name-init c = rw (c.into_iter-name-iterator.ensures.into_iter_gives, c.iter-name-items.ensures.rest, c.in_ok-values.ensures) (option_map-nil _)
 
 pub loop-name-preserved : goal.loop-name-preserved
 loop-name-preserved c =
