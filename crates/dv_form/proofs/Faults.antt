@@ -27,6 +27,7 @@ use Rattle.dv_form.specs.declared.form.Case.{Case}
 use Rattle.dv_form.specs.declared.form.Form.{Form}
 use Rattle.dv_form.specs.declared.form.Member.{Member}
 use Rattle.dv_form.specs.declared.spelling.Spelling.{Spelling}
+use Rattle.dv_form.proofs.Reading.{get_member-members_in}
 
 -- a test of what each item gives
 pub list_any_map : {A B : Type 0} (p : B → Bool) (f : A → B) (xs : List A) → list_any p (map f xs) ≡ list_any (λ x. p (f x)) xs
@@ -295,18 +296,9 @@ unfolding fault_at
 fault_at_member tables no_members name form = refl
 fault_at_member tables (member key d ms) name form = found_at (slice_cmp nat_cmp name key) _ _ d (λ e. first_fault tables e form) (fault_at_member tables ms name form)
 
-get_in : (name : List ℕ) (d : Data) → get_member name (members_in d) ≡ get name d
-unfolding members_in
-get_in name null = refl
-get_in name (boolean b) = refl
-get_in name (number n) = refl
-get_in name (string s) = refl
-get_in name (array ds) = refl
-get_in name (object ms) = refl
-
 -- what is wrong with the value under a name is what is wrong with that value
 pub fault_at_get : {R : Type 0} (tables : R → Object R) (d : Data) (name : List ℕ) (form : plain.Form R) (o : Option Data) → get name d ≡ o → fault_at tables (members_in d) name form ≡ option_map (λ e. first_fault tables e form) o
-fault_at_get tables d name form o e = fault_at_member tables (members_in d) name form ∙ ap (option_map (λ v. first_fault tables v form)) (get_in name d ∙ e)
+fault_at_get tables d name form o e = fault_at_member tables (members_in d) name form ∙ ap (option_map (λ v. first_fault tables v form)) (get_member-members_in name d ∙ e)
 
 pub member_missing : {R : Type 0} (tables : R → Object R) (d : Data) (m : Member R) → get m.name.now d ≡ None → m.needed ≡ true → member_fault d (fault_at tables (members_in d)) (member_of m) ≡ Some (inside (into_member m.name.now) (here Wrong))
 unfolding judged_member

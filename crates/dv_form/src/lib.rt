@@ -16,10 +16,12 @@ mod table;
 #[cfg(test)]
 mod tests;
 mod walk;
+mod word;
 
 pub use fault::{Fault, FaultKind};
 pub use form::{Bar, Case, Form, Grammar, Member, Table};
 pub use members::{id_in, integer_in};
-pub use read::{FromJson, read_at, read_given};
+pub use read::{FromJson, byte_of, items_of, members_of, take_at, take_given};
 pub use spelling::{Spelling, is_name};
 pub use walk::first_fault;
+pub use word::{says_at, text_at};

@@ -1,44 +1,62 @@
 ghost use Rattle.std.specs.Prelude.{◌≡◌, map, option_map, unwrap_or, IfOk};
 ghost use Rattle.serde_json.specs.Data.{null};
-ghost use Rattle.serde_json.specs.Find.{get};
-ghost use Rattle.serde_json.specs.View.{view};
+ghost use Rattle.serde_json.specs.Find.{get_member};
+ghost use Rattle.serde_json.specs.View.{view, members_view};
+ghost use Rattle.dv_value.specs.Json.{without};
 ghost use Rattle.dv_form.specs.Members as say;
 
-use dv_value::{Id, Text, Values, items_with_capacity};
-use serde_json::Value as Json;
+use dv_value::{Id, Text, Values, items_with_capacity, take_member};
+use serde_json::{Map, Value as Json};
 use sqlite_items::Items;
 use std::alloc::{AllocError, Global};
 
-/// A type that is read from JSON of its form. What JSON of another form gives is of no account: it is refused
-/// before it is read.
+/// A type that is read from JSON of its form, which is taken apart: its texts are moved and not copied. What JSON of
+/// another form gives is of no account: it is refused before it is read.
 pub trait FromJson: Drop {
     ghost use Rattle.serde_json.specs.Data.{Data};
 
     ghost of_json: { Data → Self };
 
-    fn from_json(alloc: Global, json: &Json) -> Result<Self, AllocError>
-        ensures { IfOk result (λ value. value ≡ of_json (view json.now)) };
+    fn from_json(alloc: Global, json: Json) -> Result<Self, AllocError>
+        ensures { IfOk result (λ value. value ≡ of_json (view json)) };
 }
 
-/// What a member of an object is. Where it is missing, what `null` is.
-pub fn read_at<T: FromJson>(alloc: Global, json: &Json, name: &str) -> Result<T, AllocError>
-    ensures { IfOk result (λ value. value ≡ T.of_json (unwrap_or (get name.now (view json.now)) null)) }
+/// The members of an object. What isn't an object has none.
+#[tactic(auto, unfolding(crate::specs::Members::members_in))]
+pub fn members_of(alloc: Global, json: Json) -> Map<String, Json>
+    ensures { members_view result.entries ≡ say.members_in (view json) }
 {
-    match json.get(name) {
-        Some(value) => T::from_json(alloc, value),
-        None => T::from_json(alloc, &Json::Null),
+    match json {
+        Json::Object(members) => members,
+        _ => Map::new(alloc),
     }
 }
 
-/// What a member of an object is, where it is given.
-pub fn read_given<T: FromJson>(
+/// What a member is, which is taken out of its object. Where it is missing, what `null` is.
+pub fn take_at<T: FromJson>(
     alloc: Global,
-    json: &Json,
+    members: &mut Map<String, Json>,
+    name: &str,
+) -> Result<T, AllocError>
+    ensures value { IfOk result (λ value. value ≡ T.of_json (unwrap_or (get_member name.now (members_view members.old.entries)) null)) }
+    ensures rest { members_view members.new.entries ≡ without name.now (members_view members.old.entries) }
+{
+    match take_member(members, name) {
+        Some(value) => T::from_json(alloc, value),
+        None => T::from_json(alloc, Json::Null),
+    }
+}
+
+/// What a member is, which is taken out of its object, where it is given.
+pub fn take_given<T: FromJson>(
+    alloc: Global,
+    members: &mut Map<String, Json>,
     name: &str,
 ) -> Result<Option<T>, AllocError>
-    ensures { IfOk result (λ value. value ≡ option_map T.of_json (get name.now (view json.now))) }
+    ensures value { IfOk result (λ value. value ≡ option_map T.of_json (get_member name.now (members_view members.old.entries))) }
+    ensures rest { members_view members.new.entries ≡ without name.now (members_view members.old.entries) }
 {
-    match json.get(name) {
+    match take_member(members, name) {
         Some(value) => Ok(Some(T::from_json(alloc, value)?)),
         None => Ok(None),
     }
@@ -49,8 +67,8 @@ impl FromJson for bool {
 
     ghost of_json = { flag_of };
 
-    fn from_json(_alloc: Global, json: &Json) -> Result<bool, AllocError> {
-        Ok(flag_of(json))
+    fn from_json(_alloc: Global, json: Json) -> Result<bool, AllocError> {
+        Ok(flag_of(&json))
     }
 }
 
@@ -59,8 +77,8 @@ impl FromJson for Id {
 
     ghost of_json = { id_of_json };
 
-    fn from_json(_alloc: Global, json: &Json) -> Result<Id, AllocError> {
-        Ok(id_of_json(json))
+    fn from_json(_alloc: Global, json: Json) -> Result<Id, AllocError> {
+        Ok(id_of_json(&json))
     }
 }
 
@@ -69,8 +87,8 @@ impl FromJson for i64 {
 
     ghost of_json = { integer_of };
 
-    fn from_json(_alloc: Global, json: &Json) -> Result<i64, AllocError> {
-        Ok(integer_of(json))
+    fn from_json(_alloc: Global, json: Json) -> Result<i64, AllocError> {
+        Ok(integer_of(&json))
     }
 }
 
@@ -79,8 +97,8 @@ impl FromJson for i32 {
 
     ghost of_json = { short_of };
 
-    fn from_json(_alloc: Global, json: &Json) -> Result<i32, AllocError> {
-        Ok(short_of(json))
+    fn from_json(_alloc: Global, json: Json) -> Result<i32, AllocError> {
+        Ok(short_of(&json))
     }
 }
 
@@ -89,8 +107,8 @@ impl FromJson for u8 {
 
     ghost of_json = { natural_below 256 };
 
-    fn from_json(_alloc: Global, json: &Json) -> Result<u8, AllocError> {
-        Ok(byte_of(json))
+    fn from_json(_alloc: Global, json: Json) -> Result<u8, AllocError> {
+        Ok(byte_of(&json))
     }
 }
 
@@ -99,8 +117,8 @@ impl FromJson for u32 {
 
     ghost of_json = { natural_below 4294967296 };
 
-    fn from_json(_alloc: Global, json: &Json) -> Result<u32, AllocError> {
-        Ok(count_of(json))
+    fn from_json(_alloc: Global, json: Json) -> Result<u32, AllocError> {
+        Ok(count_of(&json))
     }
 }
 
@@ -109,8 +127,8 @@ impl FromJson for usize {
 
     ghost of_json = { natural_of };
 
-    fn from_json(_alloc: Global, json: &Json) -> Result<usize, AllocError> {
-        Ok(natural_of(json) as usize)
+    fn from_json(_alloc: Global, json: Json) -> Result<usize, AllocError> {
+        Ok(natural_of(&json) as usize)
     }
 }
 
@@ -120,10 +138,12 @@ impl FromJson for Text {
     ghost of_json = { text_of };
 
     #[tactic(auto, unfolding(crate::specs::Members::text_of, crate::specs::Members::text_in))]
-    fn from_json(alloc: Global, json: &Json) -> Result<Text, AllocError> {
-        match json.as_str() {
-            Some(text) => Ok(Text::from_str(alloc, text)?),
-            None => Text::from_str(alloc, ""),
+    fn from_json(alloc: Global, json: Json) -> Result<Text, AllocError> {
+        match json {
+            Json::String(text) => Ok(Text::from_string(text)),
+            Json::Null | Json::Bool(_) | Json::Number(_) | Json::Array(_) | Json::Object(_) => {
+                Ok(Text::new(alloc))
+            }
         }
     }
 }
@@ -134,13 +154,13 @@ impl FromJson for Values {
     ghost of_json = { raw_values_of };
 
     #[tactic(auto, unfolding(crate::specs::Members::raw_values_of))]
-    fn from_json(alloc: Global, json: &Json) -> Result<Values, AllocError> {
-        match json.as_object() {
-            Some(members) => match Values::from_json(alloc, members)? {
+    fn from_json(alloc: Global, json: Json) -> Result<Values, AllocError> {
+        match json {
+            Json::Object(members) => match Values::from_json(alloc, members)? {
                 Some(values) => Ok(values),
                 None => Ok(Values::new(alloc)),
             },
-            None => Ok(Values::new(alloc)),
+            _ => Ok(Values::new(alloc)),
         }
     }
 }
@@ -151,25 +171,25 @@ impl<T: FromJson> FromJson for Items<T> {
 
     ghost of_json = { λ d. map T.of_json (list_of d) };
 
-    fn from_json(alloc: Global, json: &Json) -> Result<Items<T>, AllocError> {
-        read_items(alloc, items_in(json))
+    fn from_json(alloc: Global, json: Json) -> Result<Items<T>, AllocError> {
+        read_items(alloc, items_of(alloc, json))
     }
 }
 
-// The items of a list, else none.
+/// The items of a list. What isn't a list has none.
 #[tactic(auto, unfolding(crate::specs::Members::list_of))]
-fn items_in(json: &Json) -> &[Json]
-    ensures { map view result.now ≡ say.list_of (view json.now) }
+pub fn items_of(alloc: Global, json: Json) -> Vec<Json>
+    ensures { map view result.items ≡ say.list_of (view json) }
 {
-    match json.as_array() {
-        Some(items) => items.as_slice(),
-        None => &[],
+    match json {
+        Json::Array(items) => items,
+        _ => Vec::new(alloc),
     }
 }
 
 // What each item of a list is.
-fn read_items<T: FromJson>(alloc: Global, items: &[Json]) -> Result<Items<T>, AllocError>
-    ensures { IfOk result (λ list. list ≡ map T.of_json (map view items.now)) }
+fn read_items<T: FromJson>(alloc: Global, items: Vec<Json>) -> Result<Items<T>, AllocError>
+    ensures { IfOk result (λ list. list ≡ map T.of_json (map view items.items)) }
 {
     let mut list = items_with_capacity(alloc, items.len())?;
     for item in items {
@@ -217,9 +237,9 @@ fn natural_of(json: &Json) -> u64
     json.as_u64().unwrap_or(0)
 }
 
-// The natural number of 8 bits that a value is, else 0.
+/// The natural number of 8 bits that a value is, else 0.
 #[tactic(auto, using(crate::proofs::Shorts::natural_narrowed), unfolding(crate::specs::Members::natural_below))]
-fn byte_of(json: &Json) -> u8
+pub fn byte_of(json: &Json) -> u8
     ensures { result ≡ say.natural_below 256 (view json.now) }
 {
     u8::try_from(natural_of(json)).unwrap_or(0)

@@ -28,7 +28,7 @@ pub(crate) fn read_form(alloc: Global, bytes: &[u8]) -> Result<Draft, DefFault>
         return Err(not_json(alloc));
     }
     match read_json(alloc, bytes) {
-        Ok(json) => read_object(alloc, &json),
+        Ok(json) => read_object(alloc, json),
         Err(JsonFault::Malformed) => Err(not_json(alloc)),
         Err(JsonFault::OutOfMemory) => Err(DefFault::OutOfMemory),
     }
@@ -36,16 +36,16 @@ pub(crate) fn read_form(alloc: Global, bytes: &[u8]) -> Result<Draft, DefFault>
 
 // What a JSON value says, or the first fault of its form.
 #[tactic(auto, unfolding(crate::specs::Form::fault_in))]
-fn read_object(alloc: Global, json: &Json) -> Result<Draft, DefFault>
-    ensures fault { IfErr result (λ fault. (fault ≡ DefFault.OutOfMemory → ⊥) → say.fault_in (view json.now) ≡ Some fault) }
-    ensures accepted { IfOk result (λ draft. say.fault_in (view json.now) ≡ None) }
-    ensures draft { IfOk result (λ draft. draft ≡ draft_of (view json.now)) }
+fn read_object(alloc: Global, json: Json) -> Result<Draft, DefFault>
+    ensures fault { IfErr result (λ fault. (fault ≡ DefFault.OutOfMemory → ⊥) → say.fault_in (view json) ≡ Some fault) }
+    ensures accepted { IfOk result (λ draft. say.fault_in (view json) ≡ None) }
+    ensures draft { IfOk result (λ draft. draft ≡ draft_of (view json)) }
     ensures limits { IfOk result (λ draft. IsWithinLimits draft) }
 {
     if !json.is_object() {
         return Err(not_json(alloc));
     }
-    match first_fault(alloc, json, Rule::Definition) {
+    match first_fault(alloc, &json, Rule::Definition) {
         Ok(Some(fault)) => Err(bad(fault)),
         Ok(None) => match read_draft(alloc, json) {
             Ok(draft) => Ok(draft),

@@ -1,5 +1,5 @@
 ghost use Rattle.std.specs.Prelude.{◌≡◌, IfOk};
-ghost use Rattle.serde_json.specs.View.{view};
+ghost use Rattle.serde_json.specs.View.{view, members_view};
 ghost use Rattle.dv_meta.specs.Reading as say;
 
 use crate::draft::{
@@ -9,36 +9,37 @@ use crate::opening::{Action, Entry, Opening, OpeningTeam, OpeningUnit, OpeningUs
 use crate::registration::Message;
 use crate::relationship::Cascade;
 use crate::table::RollupKind;
-use dv_form::{FromJson, read_at, read_given};
+use dv_form::{FromJson, byte_of, members_of, says_at, take_at, take_given};
 use dv_value::{Kind, Text};
-use serde_json::Value as Json;
+use serde_json::{Map, Value as Json};
 use std::alloc::{AllocError, Global};
 
 /// What a text of a definition's form says.
-#[tactic(auto, unfolding(crate::specs::Reading::draft_of))]
-pub(crate) fn read_draft(alloc: Global, json: &Json) -> Result<Draft, AllocError>
-    ensures { IfOk result (λ draft. draft ≡ say.draft_of (view json.now)) }
+#[tactic(auto, using(dv_form::proofs::Reading::taken), unfolding(crate::specs::Reading::draft_of, crate::specs::Reading::opening_of))]
+pub(crate) fn read_draft(alloc: Global, json: Json) -> Result<Draft, AllocError>
+    ensures { IfOk result (λ draft. draft ≡ say.draft_of (view json)) }
 {
+    let mut members = members_of(alloc, json);
     Ok(Draft {
-        tables: read_at(alloc, json, "tables")?,
-        relationships: read_at(alloc, json, "relationships")?,
-        steps: read_at(alloc, json, "steps")?,
-        opening: read_opening(alloc, json)?,
+        tables: take_at(alloc, &mut members, "tables")?,
+        relationships: take_at(alloc, &mut members, "relationships")?,
+        steps: take_at(alloc, &mut members, "steps")?,
+        opening: read_opening(alloc, &mut members)?,
     })
 }
 
 // The opening directory of a definition.
-#[tactic(auto, unfolding(crate::specs::Reading::opening_of))]
-fn read_opening(alloc: Global, json: &Json) -> Result<Opening, AllocError>
-    ensures { IfOk result (λ opening. opening ≡ say.opening_of (view json.now)) }
+#[tactic(auto, using(dv_form::proofs::Reading::taken), unfolding(crate::specs::Reading::opening_of))]
+fn read_opening(alloc: Global, members: &mut Map<String, Json>) -> Result<Opening, AllocError>
+    ensures { IfOk result (λ opening. opening ≡ say.opening_of (object (members_view members.old.entries))) }
 {
     Ok(Opening {
-        root: read_at(alloc, json, "root")?,
-        admin: read_at(alloc, json, "admin")?,
-        units: read_at(alloc, json, "units")?,
-        roles: read_at(alloc, json, "roles")?,
-        users: read_at(alloc, json, "users")?,
-        teams: read_at(alloc, json, "teams")?,
+        root: take_at(alloc, members, "root")?,
+        admin: take_at(alloc, members, "admin")?,
+        units: take_at(alloc, members, "units")?,
+        roles: take_at(alloc, members, "roles")?,
+        users: take_at(alloc, members, "users")?,
+        teams: take_at(alloc, members, "teams")?,
     })
 }
 
@@ -47,13 +48,14 @@ impl FromJson for DraftTable {
 
     ghost of_json = { table_of };
 
-    #[tactic(auto, unfolding(crate::specs::Reading::table_of))]
-    fn from_json(alloc: Global, json: &Json) -> Result<DraftTable, AllocError> {
+    #[tactic(auto, using(dv_form::proofs::Reading::taken), unfolding(crate::specs::Reading::table_of))]
+    fn from_json(alloc: Global, json: Json) -> Result<DraftTable, AllocError> {
+        let mut members = members_of(alloc, json);
         Ok(DraftTable {
-            name: read_at(alloc, json, "name")?,
-            user_owned: says_at(json, "owned", "user"),
-            tracking: read_at(alloc, json, "tracking")?,
-            columns: read_at(alloc, json, "columns")?,
+            name: take_at(alloc, &mut members, "name")?,
+            user_owned: says_at(&members, "owned", "user"),
+            tracking: take_at(alloc, &mut members, "tracking")?,
+            columns: take_at(alloc, &mut members, "columns")?,
         })
     }
 }
@@ -63,28 +65,13 @@ impl FromJson for DraftColumn {
 
     ghost of_json = { column_of };
 
-    #[tactic(auto, unfolding(crate::specs::Reading::column_of))]
-    fn from_json(alloc: Global, json: &Json) -> Result<DraftColumn, AllocError> {
+    #[tactic(auto, using(dv_form::proofs::Reading::taken), unfolding(crate::specs::Reading::column_of, crate::specs::Reading::form_of, crate::specs::Reading::whole_of, crate::specs::Reading::rollup_of))]
+    fn from_json(alloc: Global, json: Json) -> Result<DraftColumn, AllocError> {
+        let mut members = members_of(alloc, json);
         Ok(DraftColumn {
-            name: read_at(alloc, json, "name")?,
-            required: read_at(alloc, json, "required")?,
-            form: read_form(alloc, json)?,
-        })
-    }
-}
-
-impl FromJson for DraftRollup {
-    ghost use Rattle.dv_meta.specs.Reading.{rollup_of};
-
-    ghost of_json = { rollup_of };
-
-    #[tactic(auto, unfolding(crate::specs::Reading::rollup_of))]
-    fn from_json(alloc: Global, json: &Json) -> Result<DraftRollup, AllocError> {
-        Ok(DraftRollup {
-            kind: read_at(alloc, json, "kind")?,
-            over: read_at(alloc, json, "over")?,
-            of: read_given(alloc, json, "of")?,
-            active: read_at(alloc, json, "active")?,
+            name: take_at(alloc, &mut members, "name")?,
+            required: take_at(alloc, &mut members, "required")?,
+            form: read_form(alloc, &mut members)?,
         })
     }
 }
@@ -94,18 +81,19 @@ impl FromJson for DraftRelationship {
 
     ghost of_json = { relationship_of };
 
-    #[tactic(auto, unfolding(crate::specs::Reading::relationship_of))]
-    fn from_json(alloc: Global, json: &Json) -> Result<DraftRelationship, AllocError> {
-        let delete: Option<Cascade> = read_given(alloc, json, "delete")?;
+    #[tactic(auto, using(dv_form::proofs::Reading::taken), unfolding(crate::specs::Reading::relationship_of))]
+    fn from_json(alloc: Global, json: Json) -> Result<DraftRelationship, AllocError> {
+        let mut members = members_of(alloc, json);
+        let delete: Option<Cascade> = take_given(alloc, &mut members, "delete")?;
         Ok(DraftRelationship {
-            name: read_at(alloc, json, "name")?,
-            parent: read_at(alloc, json, "parent")?,
-            child: read_at(alloc, json, "child")?,
-            column: read_at(alloc, json, "column")?,
-            assign: read_at(alloc, json, "assign")?,
-            share: read_at(alloc, json, "share")?,
-            unshare: read_at(alloc, json, "unshare")?,
-            reparent: read_at(alloc, json, "reparent")?,
+            name: take_at(alloc, &mut members, "name")?,
+            parent: take_at(alloc, &mut members, "parent")?,
+            child: take_at(alloc, &mut members, "child")?,
+            column: take_at(alloc, &mut members, "column")?,
+            assign: take_at(alloc, &mut members, "assign")?,
+            share: take_at(alloc, &mut members, "share")?,
+            unshare: take_at(alloc, &mut members, "unshare")?,
+            reparent: take_at(alloc, &mut members, "reparent")?,
             delete: delete.unwrap_or(Cascade::RemoveLink),
         })
     }
@@ -116,19 +104,20 @@ impl FromJson for DraftRegistration {
 
     ghost of_json = { registration_of };
 
-    #[tactic(auto, unfolding(crate::specs::Reading::registration_of))]
-    fn from_json(alloc: Global, json: &Json) -> Result<DraftRegistration, AllocError> {
+    #[tactic(auto, using(dv_form::proofs::Reading::taken), unfolding(crate::specs::Reading::registration_of))]
+    fn from_json(alloc: Global, json: Json) -> Result<DraftRegistration, AllocError> {
+        let mut members = members_of(alloc, json);
         Ok(DraftRegistration {
-            step: read_at(alloc, json, "step")?,
-            message: read_at(alloc, json, "message")?,
-            table: read_at(alloc, json, "table")?,
-            stage: read_at(alloc, json, "stage")?,
-            rank: read_at(alloc, json, "rank")?,
-            columns: read_given(alloc, json, "columns")?,
-            user: read_given(alloc, json, "as")?,
-            pre: read_at(alloc, json, "pre")?,
-            post: read_at(alloc, json, "post")?,
-            config: read_at(alloc, json, "config")?,
+            step: take_at(alloc, &mut members, "step")?,
+            message: take_at(alloc, &mut members, "message")?,
+            table: take_at(alloc, &mut members, "table")?,
+            stage: take_at(alloc, &mut members, "stage")?,
+            rank: take_at(alloc, &mut members, "rank")?,
+            columns: take_given(alloc, &mut members, "columns")?,
+            user: take_given(alloc, &mut members, "as")?,
+            pre: take_at(alloc, &mut members, "pre")?,
+            post: take_at(alloc, &mut members, "post")?,
+            config: take_at(alloc, &mut members, "config")?,
         })
     }
 }
@@ -138,13 +127,14 @@ impl FromJson for Role {
 
     ghost of_json = { role_of };
 
-    #[tactic(auto, unfolding(crate::specs::Reading::role_of))]
-    fn from_json(alloc: Global, json: &Json) -> Result<Role, AllocError> {
+    #[tactic(auto, using(dv_form::proofs::Reading::taken), unfolding(crate::specs::Reading::role_of))]
+    fn from_json(alloc: Global, json: Json) -> Result<Role, AllocError> {
+        let mut members = members_of(alloc, json);
         Ok(Role {
-            id: read_at(alloc, json, "id")?,
-            direct: says_at(json, "inheritance", "direct"),
-            manage: read_at(alloc, json, "manage")?,
-            entries: read_at(alloc, json, "privileges")?,
+            id: take_at(alloc, &mut members, "id")?,
+            direct: says_at(&members, "inheritance", "direct"),
+            manage: take_at(alloc, &mut members, "manage")?,
+            entries: take_at(alloc, &mut members, "privileges")?,
         })
     }
 }
@@ -154,11 +144,12 @@ impl FromJson for OpeningUnit {
 
     ghost of_json = { unit_of };
 
-    #[tactic(auto, unfolding(crate::specs::Reading::unit_of))]
-    fn from_json(alloc: Global, json: &Json) -> Result<OpeningUnit, AllocError> {
+    #[tactic(auto, using(dv_form::proofs::Reading::taken), unfolding(crate::specs::Reading::unit_of))]
+    fn from_json(alloc: Global, json: Json) -> Result<OpeningUnit, AllocError> {
+        let mut members = members_of(alloc, json);
         Ok(OpeningUnit {
-            id: read_at(alloc, json, "id")?,
-            parent: read_at(alloc, json, "parent")?,
+            id: take_at(alloc, &mut members, "id")?,
+            parent: take_at(alloc, &mut members, "parent")?,
         })
     }
 }
@@ -168,12 +159,13 @@ impl FromJson for OpeningUser {
 
     ghost of_json = { user_of };
 
-    #[tactic(auto, unfolding(crate::specs::Reading::user_of))]
-    fn from_json(alloc: Global, json: &Json) -> Result<OpeningUser, AllocError> {
+    #[tactic(auto, using(dv_form::proofs::Reading::taken), unfolding(crate::specs::Reading::user_of))]
+    fn from_json(alloc: Global, json: Json) -> Result<OpeningUser, AllocError> {
+        let mut members = members_of(alloc, json);
         Ok(OpeningUser {
-            id: read_at(alloc, json, "id")?,
-            unit: read_at(alloc, json, "unit")?,
-            roles: read_at(alloc, json, "roles")?,
+            id: take_at(alloc, &mut members, "id")?,
+            unit: take_at(alloc, &mut members, "unit")?,
+            roles: take_at(alloc, &mut members, "roles")?,
         })
     }
 }
@@ -183,14 +175,15 @@ impl FromJson for OpeningTeam {
 
     ghost of_json = { team_of };
 
-    #[tactic(auto, unfolding(crate::specs::Reading::team_of))]
-    fn from_json(alloc: Global, json: &Json) -> Result<OpeningTeam, AllocError> {
+    #[tactic(auto, using(dv_form::proofs::Reading::taken), unfolding(crate::specs::Reading::team_of))]
+    fn from_json(alloc: Global, json: Json) -> Result<OpeningTeam, AllocError> {
+        let mut members = members_of(alloc, json);
         Ok(OpeningTeam {
-            id: read_at(alloc, json, "id")?,
-            unit: read_at(alloc, json, "unit")?,
-            access: says_at(json, "kind", "access"),
-            members: read_at(alloc, json, "members")?,
-            roles: read_at(alloc, json, "roles")?,
+            id: take_at(alloc, &mut members, "id")?,
+            unit: take_at(alloc, &mut members, "unit")?,
+            access: says_at(&members, "kind", "access"),
+            members: take_at(alloc, &mut members, "members")?,
+            roles: take_at(alloc, &mut members, "roles")?,
         })
     }
 }
@@ -200,8 +193,8 @@ impl FromJson for Message {
 
     ghost of_json = { message_of };
 
-    fn from_json(_alloc: Global, json: &Json) -> Result<Message, AllocError> {
-        Ok(message_of(json))
+    fn from_json(_alloc: Global, json: Json) -> Result<Message, AllocError> {
+        Ok(message_of(&json))
     }
 }
 
@@ -232,8 +225,8 @@ impl FromJson for Cascade {
 
     ghost of_json = { cascade_of };
 
-    fn from_json(_alloc: Global, json: &Json) -> Result<Cascade, AllocError> {
-        Ok(cascade_of(json))
+    fn from_json(_alloc: Global, json: Json) -> Result<Cascade, AllocError> {
+        Ok(cascade_of(&json))
     }
 }
 
@@ -262,8 +255,8 @@ impl FromJson for RollupKind {
 
     ghost of_json = { rollup_kind_of };
 
-    fn from_json(_alloc: Global, json: &Json) -> Result<RollupKind, AllocError> {
-        Ok(rollup_kind_of(json))
+    fn from_json(_alloc: Global, json: Json) -> Result<RollupKind, AllocError> {
+        Ok(rollup_kind_of(&json))
     }
 }
 
@@ -310,14 +303,17 @@ fn action_of(json: &Json) -> Option<Action>
 }
 
 // The table of a privilege. None for every table.
-#[tactic(auto, unfolding(crate::specs::Reading::entry_table_of))]
+#[tactic(auto, unfolding(crate::specs::Reading::entry_table_of, dv_form::specs::Members::text_of, dv_form::specs::Members::text_in))]
 fn read_entry_table(alloc: Global, json: &Json) -> Result<Option<Text>, AllocError>
     ensures { IfOk result (λ table. table ≡ say.entry_table_of (view json.now)) }
 {
     if says(json, "*") {
         return Ok(None);
     }
-    Ok(Some(Text::from_json(alloc, json)?))
+    match json.as_str() {
+        Some(text) => Ok(Some(Text::from_str(alloc, text)?)),
+        None => Ok(Some(Text::new(alloc))),
+    }
 }
 
 // Whether a value is a word.
@@ -328,20 +324,10 @@ fn says(json: &Json, word: &str) -> bool
     json.as_str().unwrap_or("") == word
 }
 
-// Whether a member is a word.
-fn says_at(json: &Json, name: &str, word: &str) -> bool
-    ensures { result ≡ bytes_eq (unwrap_or (as_str (unwrap_or (get name.now (view json.now)) null)) []) word.now }
-{
-    match json.get(name) {
-        Some(value) => says(value, word),
-        None => says(&Json::Null, word),
-    }
-}
-
 ghost use Rattle.std.specs.Prelude.{[], unwrap_or};
 ghost use Rattle.std.specs.Str.{bytes_eq};
-ghost use Rattle.serde_json.specs.Data.{null};
-ghost use Rattle.serde_json.specs.Find.{get, as_str};
+ghost use Rattle.serde_json.specs.Data.{object};
+ghost use Rattle.serde_json.specs.Find.{as_str};
 
 impl FromJson for Entry {
     ghost use Rattle.dv_meta.specs.Reading.{entry_of};
@@ -349,11 +335,11 @@ impl FromJson for Entry {
     ghost of_json = { entry_of };
 
     #[tactic(auto, unfolding(crate::specs::Reading::entry_of))]
-    fn from_json(alloc: Global, json: &Json) -> Result<Entry, AllocError> {
+    fn from_json(alloc: Global, json: Json) -> Result<Entry, AllocError> {
         Ok(Entry {
-            action: entry_action(json),
-            table: entry_table(alloc, json)?,
-            depth: entry_depth(alloc, json)?,
+            action: entry_action(&json),
+            table: entry_table(alloc, &json)?,
+            depth: entry_depth(&json),
         })
     }
 }
@@ -379,53 +365,66 @@ fn entry_table(alloc: Global, json: &Json) -> Result<Option<Text>, AllocError>
 }
 
 // The depth of a privilege.
-fn entry_depth(alloc: Global, json: &Json) -> Result<u8, AllocError>
-    ensures { IfOk result (λ depth. depth ≡ natural_below 256 (say.item_at 2 (view json.now))) }
+fn entry_depth(json: &Json) -> u8
+    ensures { result ≡ natural_below 256 (say.item_at 2 (view json.now)) }
 {
     match json.get(2) {
-        Some(item) => Ok(u8::from_json(alloc, item)?),
-        None => Ok(u8::from_json(alloc, &Json::Null)?),
+        Some(item) => byte_of(item),
+        None => byte_of(&Json::Null),
     }
 }
 
 ghost use Rattle.dv_form.specs.Members.{natural_below};
 
 // What a column's type says.
-#[tactic(auto, unfolding(crate::specs::Reading::form_of))]
-fn read_form(alloc: Global, json: &Json) -> Result<DraftForm, AllocError>
-    ensures { IfOk result (λ form. form ≡ say.form_of (view json.now)) }
+#[tactic(auto, using(dv_form::proofs::Reading::taken), unfolding(crate::specs::Reading::form_of, crate::specs::Reading::rollup_of))]
+fn read_form(alloc: Global, members: &mut Map<String, Json>) -> Result<DraftForm, AllocError>
+    ensures { IfOk result (λ form. form ≡ say.form_of (object (members_view members.old.entries))) }
 {
-    if says_at(json, "type", "flag") {
+    if says_at(members, "type", "flag") {
         Ok(DraftForm::Plain(Kind::Flag))
-    } else if says_at(json, "type", "moment") {
+    } else if says_at(members, "type", "moment") {
         Ok(DraftForm::Plain(Kind::Moment))
-    } else if says_at(json, "type", "lookup") {
+    } else if says_at(members, "type", "lookup") {
         Ok(DraftForm::Lookup)
-    } else if says_at(json, "type", "whole") {
-        Ok(DraftForm::Plain(read_whole(alloc, json)?))
-    } else if says_at(json, "type", "choice") {
-        let options = read_at(alloc, json, "options")?;
+    } else if says_at(members, "type", "whole") {
+        Ok(DraftForm::Plain(read_whole(alloc, members)?))
+    } else if says_at(members, "type", "choice") {
+        let options = take_at(alloc, members, "options")?;
         Ok(DraftForm::Plain(Kind::Choice { options }))
-    } else if says_at(json, "type", "amount") {
-        let scale = read_at(alloc, json, "scale")?;
+    } else if says_at(members, "type", "amount") {
+        let scale = take_at(alloc, members, "scale")?;
         Ok(DraftForm::Plain(Kind::Amount { scale }))
-    } else if says_at(json, "type", "text") {
-        let max = read_at(alloc, json, "max")?;
+    } else if says_at(members, "type", "text") {
+        let max = take_at(alloc, members, "max")?;
         Ok(DraftForm::Plain(Kind::Text { max }))
     } else {
-        Ok(DraftForm::Rollup(DraftRollup::from_json(alloc, json)?))
+        Ok(DraftForm::Rollup(read_rollup(alloc, members)?))
     }
 }
 
 // A whole with its ends.
-#[tactic(auto, unfolding(crate::specs::Reading::whole_of))]
-fn read_whole(alloc: Global, json: &Json) -> Result<Kind, AllocError>
-    ensures { IfOk result (λ kind. kind ≡ say.whole_of (view json.now)) }
+#[tactic(auto, using(dv_form::proofs::Reading::taken), unfolding(crate::specs::Reading::whole_of))]
+fn read_whole(alloc: Global, members: &mut Map<String, Json>) -> Result<Kind, AllocError>
+    ensures { IfOk result (λ kind. kind ≡ say.whole_of (object (members_view members.old.entries))) }
 {
-    let min: Option<i32> = read_given(alloc, json, "min")?;
-    let max: Option<i32> = read_given(alloc, json, "max")?;
+    let min: Option<i32> = take_given(alloc, members, "min")?;
+    let max: Option<i32> = take_given(alloc, members, "max")?;
     Ok(Kind::Whole {
         min: min.unwrap_or(i32::MIN),
         max: max.unwrap_or(i32::MAX),
+    })
+}
+
+// A rollup: what it takes of the rows under its own.
+#[tactic(auto, using(dv_form::proofs::Reading::taken), unfolding(crate::specs::Reading::rollup_of))]
+fn read_rollup(alloc: Global, members: &mut Map<String, Json>) -> Result<DraftRollup, AllocError>
+    ensures { IfOk result (λ rollup. rollup ≡ say.rollup_of (object (members_view members.old.entries))) }
+{
+    Ok(DraftRollup {
+        kind: take_at(alloc, members, "kind")?,
+        over: take_at(alloc, members, "over")?,
+        of: take_given(alloc, members, "of")?,
+        active: take_at(alloc, members, "active")?,
     })
 }

@@ -10,5 +10,6 @@ pub mod Raws
 pub mod RoundTrips
 pub mod Sixteen
 pub mod Spellings
+pub mod Taken
 pub mod Utf8
 pub mod Versions

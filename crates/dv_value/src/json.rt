@@ -1,7 +1,8 @@
-ghost use Rattle.std.specs.Prelude.{◌≡◌, Some, None, IfOk, OnOk, OnErr, IsErrOf};
+ghost use Rattle.std.specs.Prelude.{◌≡◌, Some, None, IfOk, OnOk, OnErr, IsErrOf, option_map};
 ghost use Rattle.serde_json.specs.Data.{put};
+ghost use Rattle.serde_json.specs.Find.{get_member};
 ghost use Rattle.serde_json.specs.View.{view, members_view};
-ghost use Rattle.dv_value.specs.Json.{json_of};
+ghost use Rattle.dv_value.specs.Json.{json_of, without};
 
 use serde_json::{Category, Map, Value as Json};
 use std::alloc::{AllocError, Global};
@@ -42,4 +43,12 @@ pub fn add_member(
 {
     members.insert(String::from_str(alloc, name)?, value)?;
     Ok(())
+}
+
+/// Takes a member out of a JSON object, if there is one of the name.
+pub fn take_member(members: &mut Map<String, Json>, name: &str) -> Option<Json>
+    ensures value { option_map view result ≡ get_member name.now (members_view members.old.entries) }
+    ensures rest { members_view members.new.entries ≡ without name.now (members_view members.old.entries) }
+{
+    members.remove(name)
 }

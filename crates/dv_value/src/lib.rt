@@ -32,7 +32,7 @@ mod what;
 pub use amount::{print_amount, read_amount};
 pub use capacity::items_with_capacity;
 pub use id::Id;
-pub use json::{JsonFault, add_member, read_json};
+pub use json::{JsonFault, add_member, read_json, take_member};
 pub use kind::Kind;
 pub use moment::{a_moment_has_one_text, print_moment, read_moment};
 pub use order::{compare, the_order_of_values_is_total};

@@ -19,21 +19,21 @@ pub enum Raw {
 }
 
 impl Raw {
-    /// The raw value that a JSON value is. None for a list, an object, and a number that isn't an integer of 64
-    /// bits.
+    /// The raw value that a JSON value is, whose text is taken over and not copied. None for a list, an object, and a
+    /// number that isn't an integer of 64 bits.
     #[tactic(auto, unfolding(crate::specs::Raws::raw_of))]
-    pub fn from_json(alloc: Global, json: &Json) -> Result<Option<Raw>, AllocError>
-        ensures { IfOk result (λ raw. raw ≡ raw_of (view json.now)) }
+    pub fn from_json(json: Json) -> Option<Raw>
+        ensures { result ≡ raw_of (view json) }
     {
         match json {
-            Json::Null => Ok(Some(Raw::Null)),
-            Json::Bool(flag) => Ok(Some(Raw::Bool(*flag))),
+            Json::Null => Some(Raw::Null),
+            Json::Bool(flag) => Some(Raw::Bool(flag)),
             Json::Number(number) => match number.as_i64() {
-                Some(n) => Ok(Some(Raw::Int(n))),
-                None => Ok(None),
+                Some(n) => Some(Raw::Int(n)),
+                None => None,
             },
-            Json::String(text) => Ok(Some(Raw::Str(Text::from_str(alloc, text.as_str())?))),
-            Json::Array(_) | Json::Object(_) => Ok(None),
+            Json::String(text) => Some(Raw::Str(Text::from_string(text))),
+            Json::Array(_) | Json::Object(_) => None,
         }
     }
 
@@ -83,19 +83,19 @@ impl Values {
         self.items.as_slice()
     }
 
-    /// The values that an object's members are, each name once, in ascending byte order. None where one of them isn't
-    /// a raw value.
+    /// The values that an object's members are, each name once, in ascending byte order. Names and texts are taken
+    /// over and not copied. None where one of the members isn't a raw value.
     pub fn from_json(
         alloc: Global,
-        members: &Map<String, Json>,
+        members: Map<String, Json>,
     ) -> Result<Option<Values>, AllocError>
-        ensures values { IfOk result (λ values. values ≡ values_of (members_view members.now.entries)) }
+        ensures values { IfOk result (λ values. values ≡ values_of (members_view members.entries)) }
         ensures ascending { IfOk result (λ values. IfSome values HasAscendingNames) }
     {
         let mut values = Values::with_capacity(alloc, members.len())?;
-        for (name, json) in members.iter() {
-            match Raw::from_json(alloc, json)? {
-                Some(value) => values.push(Text::from_str(alloc, name.as_str())?, value)?,
+        for (name, json) in members {
+            match Raw::from_json(json) {
+                Some(value) => values.push(Text::from_string(name), value)?,
                 None => return Ok(None),
             }
         }

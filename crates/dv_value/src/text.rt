@@ -1,4 +1,4 @@
-ghost use Rattle.std.specs.Prelude.{◌≡◌, ◌↔◌, IsTrue, IfOk, length, chars, encode_utf8_all, string_bytes};
+ghost use Rattle.std.specs.Prelude.{◌≡◌, [], ◌↔◌, IsTrue, IfOk, length, chars, encode_utf8_all, string_bytes};
 
 use sqlite_items::Items;
 use std::alloc::{AllocError, Global};
@@ -23,6 +23,15 @@ impl Model for Text {
 }
 
 impl Text {
+    /// The empty text.
+    pub fn new(alloc: Global) -> Text
+        ensures { result ≡ [] }
+    {
+        Text {
+            inner: String::new(alloc),
+        }
+    }
+
     /// The text of a string, which is taken over and not copied.
     pub fn from_string(inner: String) -> Text
         ensures { result ≡ chars (string_bytes inner) }
