@@ -1,14 +1,16 @@
 -- What is read of the items of a list is what is read of each by itself.
-use Rattle.std.proofs.Common.{◌≡◌, ℕ, ◌+◌, ◌≤◌, ◌<◌, suc, max, List, [], ◌∷◌, map, get_or, length, Option, Some, None, option_map, option_and_then, unwrap_or, refl, ap, subst, zero, arith, Ordering, Less, Equal, Greater}
+use Rattle.std.proofs.Common.{◌≡◌, ℕ, ◌+◌, ◌≤◌, ◌<◌, suc, max, List, [], ◌∷◌, map, Option, Some, None, option_map, option_and_then, unwrap_or, refl, ap, subst, arith, Global, Ordering, Less, Equal, Greater}
 use Rattle.std.specs.Ordering.{nat_cmp, match_ordering}
+use Rattle.std.specs.Vec.Iter.{into_iter_items, into_iter_steps}
+use Rattle.std.specs.declared.vec.IntoIter.{IntoIter}
 use Rattle.std.specs.Cmp.Lexicographic.{slice_cmp}
 use Rattle.serde_json.specs.Data.{Data, null, boolean, number, string, array, object, Items, no_items, item, Members, no_members, member, depth, items_depth, members_depth}
 use Rattle.serde_json.specs.Find.{get_member, as_array}
-use Rattle.serde_json.specs.View.{items_of, view}
+use Rattle.serde_json.specs.View.{items_of, items_view, view}
 use Rattle.serde_json.specs.declared.value.Value.{Value}
 use Rattle.dv_wire.specs.Deep.{deep, deep_under, deep_list, deep_each}
-use Rattle.dv_form.specs.Members.{data_list}
-use Rattle.dv_wire.specs.Members.{list_if, list_at}
+use Rattle.dv_form.specs.Members.{data_list, members_in}
+use Rattle.dv_wire.specs.Members.{list_in, list_if, list_at}
 
 abbrev Step : Type 0 → Type 0
 Step A = Data → (List ℕ → List A) → A
@@ -79,18 +81,27 @@ of_member : (o : Option Data) (ds : List Data) (n : ℕ) → option_map data_lis
 of_member None ds n is h = absurd (cc)
 of_member (Some e) ds n is h = of_array e ds n is (h e refl)
 
--- the items of a list in an object nest less deep than the object
-pub list_below : (name : List ℕ) (d : Data) (ds : List Data) → list_if name d ≡ Some ds → items_depth (items_of ds) + 2 ≤ depth d
-unfolding list_if
-list_below name null ds is = absurd (cc)
-list_below name (boolean b) ds is = absurd (cc)
-list_below name (number x) ds is = absurd (cc)
-list_below name (string s) ds is = absurd (cc)
-list_below name (array xs) ds is = absurd (cc)
-list_below name (object ms) ds is = omega (arith, of_member (get_member name ms) ds (members_depth ms) is (λ e k. member_below ms name e k))
+-- the items of a list among members nest less deep than the members
+pub list_below : (name : List ℕ) (ms : Members) (ds : List Data) → list_in name ms ≡ Some ds → items_depth (items_of ds) + 1 ≤ members_depth ms
+list_below name ms ds is = of_member (get_member name ms) ds (members_depth ms) is (λ e k. member_below ms name e k)
 
--- an item nests no deeper than its list says
-pub item_below : (xs : List Value) (i : ℕ) (x : Value) → i < length xs → x ≡ get_or xs i x → depth (view x) ≤ items_depth (items_of (map view xs))
-item_below [] i x h is = absurd (omega arith)
-item_below (y ∷ xs) zero x h is = rw is (omega arith)
-item_below (y ∷ xs) (suc i) x h is = omega (arith, item_below xs i x (omega arith) is)
+-- members nest no deeper than their object
+pub members_below : (d : Data) → members_depth (members_in d) ≤ depth d
+unfolding members_in
+members_below null = omega arith
+members_below (boolean b) = omega arith
+members_below (number x) = omega arith
+members_below (string s) = omega arith
+members_below (array ds) = omega arith
+members_below (object ms) = omega arith
+
+-- items that nest so deep at most: the first of them, and those after it
+pub first_below : (vs rest : List Value) (v : Value) (n : ℕ) → vs ≡ v ∷ rest → items_depth (items_view vs) ≤ n → depth (view v) ≤ n
+first_below vs rest v n is h = let k : items_depth (items_view (v ∷ rest)) ≤ n = subst (λ xs. items_depth (items_view xs) ≤ n) is h in omega (arith, k)
+
+pub rest_below : (vs rest : List Value) (v : Value) (n : ℕ) → vs ≡ v ∷ rest → items_depth (items_view vs) ≤ n → items_depth (items_view rest) ≤ n
+rest_below vs rest v n is h = let k : items_depth (items_view (v ∷ rest)) ≤ n = subst (λ xs. items_depth (items_view xs) ≤ n) is h in omega (arith, k)
+
+-- a call of `next` that gave an item
+pub next_is : (s t : IntoIter Value Global) (r : Option Value) (v : Value) → r ≡ Some v → into_iter_steps s r t → into_iter_items s ≡ v ∷ into_iter_items t
+next_is s t r v is h = (subst (λ o. into_iter_steps s o t) is h).0

@@ -1,16 +1,13 @@
-use Rattle.std.proofs.Common.{◌≡◌, ℕ, List, [], ◌∷◌, Some, refl, ap}
-use Rattle.serde_json.specs.Data.{Data}
-use Rattle.serde_json.specs.Find.{get, as_array}
-use Rattle.serde_json.specs.View.{items_of}
+-- The lists that are taken out of an object.
+use Rattle.std.proofs.Common.{◌≡◌, ℕ, List, [], refl, ap, option_map, option_and_then, unwrap_or, bytes_eq, false}
+use Rattle.std.specs.List.{list_any}
+use Rattle.serde_json.specs.Data.{Data, Members}
+use Rattle.serde_json.specs.Find.{as_array}
 use Rattle.dv_form.specs.Members.{data_list}
-use Rattle.dv_wire.specs.Members.{list_if}
+use Rattle.dv_form.proofs.Reading.{Left}
+use Rattle.dv_wire.specs.Members.{list_in, list_at, list_if}
 
--- the items of a list, as a list
-pub data_list-items_of : (ds : List Data) → data_list (items_of ds) ≡ ds
-data_list-items_of [] = refl
-data_list-items_of (d ∷ ds) = ap (λ es. d ∷ es) (data_list-items_of ds)
-
--- the items of a member that is a list
-pub list_if-array : (name : List ℕ) (d e : Data) (ds : List Data) → get name d ≡ Some e → as_array e ≡ Some (items_of ds) → list_if name d ≡ Some ds
+-- a list that was left is that of the object
+pub list_left : (ms : Members) (d : Data) (taken : List (List ℕ)) (name : List ℕ) → Left ms d taken → list_any (bytes_eq name) taken ≡ false → unwrap_or (list_in name ms) [] ≡ list_at name d
 unfolding list_if
-list_if-array name d e ds g h = rw (g, h) (ap Some (data_list-items_of ds))
+list_left ms d taken name left apart = ap (λ o. unwrap_or (option_map data_list (option_and_then as_array o)) []) (left name apart)

@@ -1,5 +1,5 @@
 -- A filter and a link are made of their parts and of those in them.
-use Rattle.std.proofs.Common.{◌≡◌, ℕ, List, Bool, Option, option_map, map, codes, sym}
+use Rattle.std.proofs.Common.{◌≡◌, ℕ, List, Bool, Option, option_map, map, codes, sym, ap, ◌∙◌}
 use Rattle.serde_json.specs.Data.{Data}
 use Rattle.serde_json.specs.Find.{get}
 use Rattle.dv_form.specs.Members.{text_of}
@@ -11,7 +11,7 @@ use Rattle.dv_query.specs.declared.link.Join.{Join}
 use Rattle.dv_query.specs.declared.link.Link.{Link}
 use Rattle.dv_query.specs.declared.link.Link.TheViews.{roll-Link}
 use Rattle.dv_wire.specs.Members.{list_at}
-use Rattle.dv_wire.specs.Queries.{condition_of, filter_step, filter_of, filter_at, join_at, link_step, link_of}
+use Rattle.dv_wire.specs.Queries.{condition_of, filter_step, filter_of, filter_at, join_at, link_step, link_of, part_said}
 use Rattle.dv_wire.proofs.DeepLaws.{deep-step}
 
 pub filter_made : (d : Data) (any : Bool) (conditions : List Condition) (filters : List Filter) → any ≡ says "or" (at "op" d)
@@ -26,3 +26,6 @@ pub link_made : (d : Data) (table from to : List ℕ) (join : Join) (alias : Opt
     → roll-Link (record { table = table; from = from; to = to; join = join; alias = alias; columns = columns; filter = filter; links = links }) ≡ link_of d
 unfolding link_of link_step
 link_made d table from to join alias columns filter links e1 e2 e3 e4 e5 e6 e7 e8 = rw (e1, e2, e3, e4, e5, e6, e7, e8) (sym (deep-step link_step d))
+
+pub part_same : (top page top' page' : Option Data) → top ≡ top' → page ≡ page' → part_said top page ≡ part_said top' page'
+part_same top page top' page' e f = ap (λ o. part_said o page) e ∙ ap (part_said top') f

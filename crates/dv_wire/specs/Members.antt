@@ -1,7 +1,7 @@
 -- What an object says under a name, where it isn't the value of one member as dv_form reads it. For a member that is missing or of another form some value stands, which says nothing: of a member that must be there the walk has told a fault before.
 use Rattle.std.specs.Prelude.{ℕ, ℤ, List, [], Option, map, option_map, option_and_then, unwrap_or}
-use Rattle.serde_json.specs.Data.{Data}
-use Rattle.serde_json.specs.Find.{get, as_str, as_array}
+use Rattle.serde_json.specs.Data.{Data, Members}
+use Rattle.serde_json.specs.Find.{get, get_member, as_str, as_array}
 use Rattle.dv_value.specs.Raws.{raw_of}
 use Rattle.dv_value.specs.Tokens.{version_of, token_of}
 use Rattle.dv_value.specs.declared.raw.Raw.{Raw}
@@ -26,6 +26,9 @@ unfoldable pub token_if : List ℕ → Data → Option Token
 token_if name d = option_and_then token_of (str_at name d)
 
 -- the items of the list under a name
+abbrev pub list_in : List ℕ → Members → Option (List Data)
+list_in name ms = option_map data_list (option_and_then as_array (get_member name ms))
+
 unfoldable pub list_if : List ℕ → Data → Option (List Data)
 list_if name d = option_map data_list (option_and_then as_array (get name d))
 

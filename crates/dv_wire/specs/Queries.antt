@@ -65,17 +65,20 @@ link_of d = deep link_step d
 unfoldable pub order_of : Data → Order
 order_of d = record { column = text_of (at "column" d); link = option_map text_of (get (codes "link") d); descending = flag_of (at "desc" d) }
 
--- where a page begins
-unfoldable pub start_of : Data → PageStart
-start_of d = elim (option_map text_of (get (codes "cookie") d)) [ Some cookie ↦ Cookie cookie | None ↦ Number (integer_or (pos 1) (codes "number") d) ]
+-- where a page begins, by its cookie and its number
+unfoldable pub start_said : Option Data → Option Data → PageStart
+start_said (Some cookie) number = Cookie (text_of cookie)
+start_said None number = Number (unwrap_or (option_map integer_of number) (pos 1))
 
 -- a page
 unfoldable pub page_of : Data → Part
-page_of d = Page (integer_or (pos 5000) (codes "size") d) (start_of d) (flag_of (at "total" d))
+page_of d = Page (integer_or (pos 5000) (codes "size") d) (start_said (get (codes "cookie") d) (get (codes "number") d)) (flag_of (at "total" d))
 
--- the part that is asked for
-unfoldable pub part_of : Data → Part
-part_of d = elim (option_map integer_of (get (codes "top") d)) [ Some n ↦ Top n | None ↦ elim (get (codes "page") d) [ Some page ↦ page_of page | None ↦ Page (pos 5000) (Number (pos 1)) false ] ]
+-- the part that is asked for, by the top and the page
+unfoldable pub part_said : Option Data → Option Data → Part
+part_said (Some top) page = Top (integer_of top)
+part_said None (Some page) = page_of page
+part_said None None = Page (pos 5000) (Number (pos 1)) false
 
 -- a query
 unfoldable pub query_of : Data → Query
@@ -85,5 +88,5 @@ query_of d = record {
   filter = filter_at d;
   links = map link_of (list_at (codes "links") d);
   orders = map order_of (list_at (codes "orders") d);
-  part = part_of d;
+  part = part_said (get (codes "top") d) (get (codes "page") d);
 }

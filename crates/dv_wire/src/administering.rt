@@ -1,133 +1,132 @@
+#![tactic(auto, using(dv_form::proofs::Reading::taken), unfolding(crate::specs::Requests::request_for))]
 ghost use Rattle.std.specs.Prelude.{◌≡◌, [], IfOk};
 ghost use Rattle.serde_json.specs.View.{view};
 ghost use Rattle.dv_wire.specs.Requests as say;
 
 // The messages that change the directory, member by member.
-use crate::member::says_at;
 use crate::verb::Verb;
-use dv_form::{FromJson, read_at};
+use dv_form::{FromJson, members_of, says_at, take_at};
 use dv_meta::Role;
 use dv_request::Request;
 use serde_json::Value as Json;
 use std::alloc::{AllocError, Global};
 
-#[tactic(auto, unfolding(crate::specs::Requests::request_for))]
-pub(crate) fn add_unit(alloc: Global, json: &Json) -> Result<Request, AllocError>
-    ensures { IfOk result (λ request. request ≡ say.request_for Verb.AddUnit (view json.now) []) }
+pub(crate) fn add_unit(alloc: Global, json: Json) -> Result<Request, AllocError>
+    ensures { IfOk result (λ request. request ≡ say.request_for Verb.AddUnit (view json) []) }
 {
+    let mut members = members_of(alloc, json);
     Ok(Request::AddUnit {
-        id: read_at(alloc, json, "id")?,
-        parent: read_at(alloc, json, "parent")?,
+        id: take_at(alloc, &mut members, "id")?,
+        parent: take_at(alloc, &mut members, "parent")?,
     })
 }
 
-#[tactic(auto, unfolding(crate::specs::Requests::request_for))]
-pub(crate) fn move_unit(alloc: Global, json: &Json) -> Result<Request, AllocError>
-    ensures { IfOk result (λ request. request ≡ say.request_for Verb.MoveUnit (view json.now) []) }
+pub(crate) fn move_unit(alloc: Global, json: Json) -> Result<Request, AllocError>
+    ensures { IfOk result (λ request. request ≡ say.request_for Verb.MoveUnit (view json) []) }
 {
+    let mut members = members_of(alloc, json);
     Ok(Request::MoveUnit {
-        unit: read_at(alloc, json, "unit")?,
-        parent: read_at(alloc, json, "parent")?,
+        unit: take_at(alloc, &mut members, "unit")?,
+        parent: take_at(alloc, &mut members, "parent")?,
     })
 }
 
-#[tactic(auto, unfolding(crate::specs::Requests::request_for))]
-pub(crate) fn add_user(alloc: Global, json: &Json) -> Result<Request, AllocError>
-    ensures { IfOk result (λ request. request ≡ say.request_for Verb.AddUser (view json.now) []) }
+pub(crate) fn add_user(alloc: Global, json: Json) -> Result<Request, AllocError>
+    ensures { IfOk result (λ request. request ≡ say.request_for Verb.AddUser (view json) []) }
 {
+    let mut members = members_of(alloc, json);
     Ok(Request::AddUser {
-        id: read_at(alloc, json, "id")?,
-        unit: read_at(alloc, json, "unit")?,
+        id: take_at(alloc, &mut members, "id")?,
+        unit: take_at(alloc, &mut members, "unit")?,
     })
 }
 
-#[tactic(auto, unfolding(crate::specs::Requests::request_for))]
-pub(crate) fn move_user(alloc: Global, json: &Json) -> Result<Request, AllocError>
-    ensures { IfOk result (λ request. request ≡ say.request_for Verb.MoveUser (view json.now) []) }
+pub(crate) fn move_user(alloc: Global, json: Json) -> Result<Request, AllocError>
+    ensures { IfOk result (λ request. request ≡ say.request_for Verb.MoveUser (view json) []) }
 {
+    let mut members = members_of(alloc, json);
     Ok(Request::MoveUser {
-        user: read_at(alloc, json, "user")?,
-        unit: read_at(alloc, json, "unit")?,
+        user: take_at(alloc, &mut members, "user")?,
+        unit: take_at(alloc, &mut members, "unit")?,
     })
 }
 
-#[tactic(auto, unfolding(crate::specs::Requests::request_for))]
-pub(crate) fn set_enabled(alloc: Global, json: &Json) -> Result<Request, AllocError>
-    ensures { IfOk result (λ request. request ≡ say.request_for Verb.SetEnabled (view json.now) []) }
+pub(crate) fn set_enabled(alloc: Global, json: Json) -> Result<Request, AllocError>
+    ensures { IfOk result (λ request. request ≡ say.request_for Verb.SetEnabled (view json) []) }
 {
+    let mut members = members_of(alloc, json);
     Ok(Request::SetEnabled {
-        user: read_at(alloc, json, "user")?,
-        enabled: read_at(alloc, json, "enabled")?,
+        user: take_at(alloc, &mut members, "user")?,
+        enabled: take_at(alloc, &mut members, "enabled")?,
     })
 }
 
-#[tactic(auto, unfolding(crate::specs::Requests::request_for))]
-pub(crate) fn add_team(alloc: Global, json: &Json) -> Result<Request, AllocError>
-    ensures { IfOk result (λ request. request ≡ say.request_for Verb.AddTeam (view json.now) []) }
+pub(crate) fn add_team(alloc: Global, json: Json) -> Result<Request, AllocError>
+    ensures { IfOk result (λ request. request ≡ say.request_for Verb.AddTeam (view json) []) }
 {
+    let mut members = members_of(alloc, json);
     Ok(Request::AddTeam {
-        id: read_at(alloc, json, "id")?,
-        unit: read_at(alloc, json, "unit")?,
-        access: says_at(json, "kind", "access"),
+        id: take_at(alloc, &mut members, "id")?,
+        unit: take_at(alloc, &mut members, "unit")?,
+        access: says_at(&members, "kind", "access"),
     })
 }
 
-#[tactic(auto, unfolding(crate::specs::Requests::request_for))]
-pub(crate) fn add_member(alloc: Global, json: &Json) -> Result<Request, AllocError>
-    ensures { IfOk result (λ request. request ≡ say.request_for Verb.AddMember (view json.now) []) }
+pub(crate) fn add_member(alloc: Global, json: Json) -> Result<Request, AllocError>
+    ensures { IfOk result (λ request. request ≡ say.request_for Verb.AddMember (view json) []) }
 {
+    let mut members = members_of(alloc, json);
     Ok(Request::AddMember {
-        team: read_at(alloc, json, "team")?,
-        user: read_at(alloc, json, "user")?,
+        team: take_at(alloc, &mut members, "team")?,
+        user: take_at(alloc, &mut members, "user")?,
     })
 }
 
-#[tactic(auto, unfolding(crate::specs::Requests::request_for))]
-pub(crate) fn remove_member(alloc: Global, json: &Json) -> Result<Request, AllocError>
-    ensures { IfOk result (λ request. request ≡ say.request_for Verb.RemoveMember (view json.now) []) }
+pub(crate) fn remove_member(alloc: Global, json: Json) -> Result<Request, AllocError>
+    ensures { IfOk result (λ request. request ≡ say.request_for Verb.RemoveMember (view json) []) }
 {
+    let mut members = members_of(alloc, json);
     Ok(Request::RemoveMember {
-        team: read_at(alloc, json, "team")?,
-        user: read_at(alloc, json, "user")?,
+        team: take_at(alloc, &mut members, "team")?,
+        user: take_at(alloc, &mut members, "user")?,
     })
 }
 
-#[tactic(auto, unfolding(crate::specs::Requests::request_for))]
-pub(crate) fn add_role(alloc: Global, json: &Json) -> Result<Request, AllocError>
-    ensures { IfOk result (λ request. request ≡ say.request_for Verb.AddRole (view json.now) []) }
+pub(crate) fn add_role(alloc: Global, json: Json) -> Result<Request, AllocError>
+    ensures { IfOk result (λ request. request ≡ say.request_for Verb.AddRole (view json) []) }
 {
     Ok(Request::AddRole {
         role: Role::from_json(alloc, json)?,
     })
 }
 
-#[tactic(auto, unfolding(crate::specs::Requests::request_for))]
-pub(crate) fn set_privileges(alloc: Global, json: &Json) -> Result<Request, AllocError>
-    ensures { IfOk result (λ request. request ≡ say.request_for Verb.SetPrivileges (view json.now) []) }
+pub(crate) fn set_privileges(alloc: Global, json: Json) -> Result<Request, AllocError>
+    ensures { IfOk result (λ request. request ≡ say.request_for Verb.SetPrivileges (view json) []) }
 {
+    let mut members = members_of(alloc, json);
     Ok(Request::SetPrivileges {
-        role: read_at(alloc, json, "role")?,
-        manage: read_at(alloc, json, "manage")?,
-        privileges: read_at(alloc, json, "privileges")?,
+        role: take_at(alloc, &mut members, "role")?,
+        manage: take_at(alloc, &mut members, "manage")?,
+        privileges: take_at(alloc, &mut members, "privileges")?,
     })
 }
 
-#[tactic(auto, unfolding(crate::specs::Requests::request_for))]
-pub(crate) fn give_role(alloc: Global, json: &Json) -> Result<Request, AllocError>
-    ensures { IfOk result (λ request. request ≡ say.request_for Verb.GiveRole (view json.now) []) }
+pub(crate) fn give_role(alloc: Global, json: Json) -> Result<Request, AllocError>
+    ensures { IfOk result (λ request. request ≡ say.request_for Verb.GiveRole (view json) []) }
 {
+    let mut members = members_of(alloc, json);
     Ok(Request::GiveRole {
-        role: read_at(alloc, json, "role")?,
-        to: read_at(alloc, json, "to")?,
+        role: take_at(alloc, &mut members, "role")?,
+        to: take_at(alloc, &mut members, "to")?,
     })
 }
 
-#[tactic(auto, unfolding(crate::specs::Requests::request_for))]
-pub(crate) fn take_role(alloc: Global, json: &Json) -> Result<Request, AllocError>
-    ensures { IfOk result (λ request. request ≡ say.request_for Verb.TakeRole (view json.now) []) }
+pub(crate) fn take_role(alloc: Global, json: Json) -> Result<Request, AllocError>
+    ensures { IfOk result (λ request. request ≡ say.request_for Verb.TakeRole (view json) []) }
 {
+    let mut members = members_of(alloc, json);
     Ok(Request::TakeRole {
-        role: read_at(alloc, json, "role")?,
-        to: read_at(alloc, json, "to")?,
+        role: take_at(alloc, &mut members, "role")?,
+        to: take_at(alloc, &mut members, "to")?,
     })
 }

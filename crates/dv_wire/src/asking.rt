@@ -1,3 +1,4 @@
+#![tactic(auto, using(dv_form::proofs::Reading::taken), unfolding(crate::specs::Requests::request_for, crate::specs::Members::version_if, crate::specs::Members::token_if))]
 ghost use Rattle.std.specs.Prelude.{◌≡◌, [], IfOk};
 ghost use Rattle.serde_json.specs.View.{view};
 ghost use Rattle.dv_wire.specs.Requests as say;
@@ -6,159 +7,158 @@ ghost use Rattle.dv_wire.specs.Requests as say;
 use crate::member::{integer_or, token_if, version_if};
 use crate::querying::query_of;
 use crate::verb::Verb;
-use dv_form::{read_at, read_given};
+use dv_form::{members_of, take_at, take_given};
 use dv_request::Request;
 use serde_json::Value as Json;
 use std::alloc::{AllocError, Global};
 
-#[tactic(auto, unfolding(crate::specs::Requests::request_for))]
-pub(crate) fn create(alloc: Global, json: &Json) -> Result<Request, AllocError>
-    ensures { IfOk result (λ request. request ≡ say.request_for Verb.Create (view json.now) []) }
+pub(crate) fn create(alloc: Global, json: Json) -> Result<Request, AllocError>
+    ensures { IfOk result (λ request. request ≡ say.request_for Verb.Create (view json) []) }
 {
+    let mut members = members_of(alloc, json);
     Ok(Request::Create {
-        table: read_at(alloc, json, "table")?,
-        id: read_given(alloc, json, "id")?,
-        values: read_at(alloc, json, "values")?,
+        table: take_at(alloc, &mut members, "table")?,
+        id: take_given(alloc, &mut members, "id")?,
+        values: take_at(alloc, &mut members, "values")?,
     })
 }
 
-#[tactic(auto, unfolding(crate::specs::Requests::request_for))]
-pub(crate) fn retrieve(alloc: Global, json: &Json) -> Result<Request, AllocError>
-    ensures { IfOk result (λ request. request ≡ say.request_for Verb.Retrieve (view json.now) []) }
+pub(crate) fn retrieve(alloc: Global, json: Json) -> Result<Request, AllocError>
+    ensures { IfOk result (λ request. request ≡ say.request_for Verb.Retrieve (view json) []) }
 {
+    let mut members = members_of(alloc, json);
     Ok(Request::Retrieve {
-        table: read_at(alloc, json, "table")?,
-        id: read_at(alloc, json, "id")?,
-        columns: read_given(alloc, json, "columns")?,
+        table: take_at(alloc, &mut members, "table")?,
+        id: take_at(alloc, &mut members, "id")?,
+        columns: take_given(alloc, &mut members, "columns")?,
     })
 }
 
-#[tactic(auto, unfolding(crate::specs::Requests::request_for))]
-pub(crate) fn update(alloc: Global, json: &Json) -> Result<Request, AllocError>
-    ensures { IfOk result (λ request. request ≡ say.request_for Verb.Update (view json.now) []) }
+pub(crate) fn update(alloc: Global, json: Json) -> Result<Request, AllocError>
+    ensures { IfOk result (λ request. request ≡ say.request_for Verb.Update (view json) []) }
 {
+    let mut members = members_of(alloc, json);
     Ok(Request::Update {
-        table: read_at(alloc, json, "table")?,
-        id: read_at(alloc, json, "id")?,
-        values: read_at(alloc, json, "values")?,
-        version: version_if(json, "version"),
+        table: take_at(alloc, &mut members, "table")?,
+        id: take_at(alloc, &mut members, "id")?,
+        values: take_at(alloc, &mut members, "values")?,
+        version: version_if(&members, "version"),
     })
 }
 
-#[tactic(auto, unfolding(crate::specs::Requests::request_for))]
-pub(crate) fn delete(alloc: Global, json: &Json) -> Result<Request, AllocError>
-    ensures { IfOk result (λ request. request ≡ say.request_for Verb.Delete (view json.now) []) }
+pub(crate) fn delete(alloc: Global, json: Json) -> Result<Request, AllocError>
+    ensures { IfOk result (λ request. request ≡ say.request_for Verb.Delete (view json) []) }
 {
+    let mut members = members_of(alloc, json);
     Ok(Request::Delete {
-        table: read_at(alloc, json, "table")?,
-        id: read_at(alloc, json, "id")?,
-        version: version_if(json, "version"),
+        table: take_at(alloc, &mut members, "table")?,
+        id: take_at(alloc, &mut members, "id")?,
+        version: version_if(&members, "version"),
     })
 }
 
-#[tactic(auto, unfolding(crate::specs::Requests::request_for))]
-pub(crate) fn assign(alloc: Global, json: &Json) -> Result<Request, AllocError>
-    ensures { IfOk result (λ request. request ≡ say.request_for Verb.Assign (view json.now) []) }
+pub(crate) fn assign(alloc: Global, json: Json) -> Result<Request, AllocError>
+    ensures { IfOk result (λ request. request ≡ say.request_for Verb.Assign (view json) []) }
 {
+    let mut members = members_of(alloc, json);
     Ok(Request::Assign {
-        table: read_at(alloc, json, "table")?,
-        id: read_at(alloc, json, "id")?,
-        owner: read_at(alloc, json, "owner")?,
+        table: take_at(alloc, &mut members, "table")?,
+        id: take_at(alloc, &mut members, "id")?,
+        owner: take_at(alloc, &mut members, "owner")?,
     })
 }
 
-#[tactic(auto, unfolding(crate::specs::Requests::request_for))]
-pub(crate) fn grant(alloc: Global, json: &Json) -> Result<Request, AllocError>
-    ensures { IfOk result (λ request. request ≡ say.request_for Verb.Grant (view json.now) []) }
+pub(crate) fn grant(alloc: Global, json: Json) -> Result<Request, AllocError>
+    ensures { IfOk result (λ request. request ≡ say.request_for Verb.Grant (view json) []) }
 {
+    let mut members = members_of(alloc, json);
     Ok(Request::Grant {
-        table: read_at(alloc, json, "table")?,
-        id: read_at(alloc, json, "id")?,
-        principal: read_at(alloc, json, "principal")?,
-        rights: read_at(alloc, json, "rights")?,
+        table: take_at(alloc, &mut members, "table")?,
+        id: take_at(alloc, &mut members, "id")?,
+        principal: take_at(alloc, &mut members, "principal")?,
+        rights: take_at(alloc, &mut members, "rights")?,
     })
 }
 
-#[tactic(auto, unfolding(crate::specs::Requests::request_for))]
-pub(crate) fn modify(alloc: Global, json: &Json) -> Result<Request, AllocError>
-    ensures { IfOk result (λ request. request ≡ say.request_for Verb.Modify (view json.now) []) }
+pub(crate) fn modify(alloc: Global, json: Json) -> Result<Request, AllocError>
+    ensures { IfOk result (λ request. request ≡ say.request_for Verb.Modify (view json) []) }
 {
+    let mut members = members_of(alloc, json);
     Ok(Request::Modify {
-        table: read_at(alloc, json, "table")?,
-        id: read_at(alloc, json, "id")?,
-        principal: read_at(alloc, json, "principal")?,
-        rights: read_at(alloc, json, "rights")?,
+        table: take_at(alloc, &mut members, "table")?,
+        id: take_at(alloc, &mut members, "id")?,
+        principal: take_at(alloc, &mut members, "principal")?,
+        rights: take_at(alloc, &mut members, "rights")?,
     })
 }
 
-#[tactic(auto, unfolding(crate::specs::Requests::request_for))]
-pub(crate) fn revoke(alloc: Global, json: &Json) -> Result<Request, AllocError>
-    ensures { IfOk result (λ request. request ≡ say.request_for Verb.Revoke (view json.now) []) }
+pub(crate) fn revoke(alloc: Global, json: Json) -> Result<Request, AllocError>
+    ensures { IfOk result (λ request. request ≡ say.request_for Verb.Revoke (view json) []) }
 {
+    let mut members = members_of(alloc, json);
     Ok(Request::Revoke {
-        table: read_at(alloc, json, "table")?,
-        id: read_at(alloc, json, "id")?,
-        principal: read_at(alloc, json, "principal")?,
+        table: take_at(alloc, &mut members, "table")?,
+        id: take_at(alloc, &mut members, "id")?,
+        principal: take_at(alloc, &mut members, "principal")?,
     })
 }
 
-#[tactic(auto, unfolding(crate::specs::Requests::request_for))]
-pub(crate) fn access(alloc: Global, json: &Json) -> Result<Request, AllocError>
-    ensures { IfOk result (λ request. request ≡ say.request_for Verb.Access (view json.now) []) }
+pub(crate) fn access(alloc: Global, json: Json) -> Result<Request, AllocError>
+    ensures { IfOk result (λ request. request ≡ say.request_for Verb.Access (view json) []) }
 {
+    let mut members = members_of(alloc, json);
     Ok(Request::Access {
-        table: read_at(alloc, json, "table")?,
-        id: read_at(alloc, json, "id")?,
-        user: read_given(alloc, json, "user")?,
+        table: take_at(alloc, &mut members, "table")?,
+        id: take_at(alloc, &mut members, "id")?,
+        user: take_given(alloc, &mut members, "user")?,
     })
 }
 
-#[tactic(auto, unfolding(crate::specs::Requests::request_for))]
-pub(crate) fn shares(alloc: Global, json: &Json) -> Result<Request, AllocError>
-    ensures { IfOk result (λ request. request ≡ say.request_for Verb.Shares (view json.now) []) }
+pub(crate) fn shares(alloc: Global, json: Json) -> Result<Request, AllocError>
+    ensures { IfOk result (λ request. request ≡ say.request_for Verb.Shares (view json) []) }
 {
+    let mut members = members_of(alloc, json);
     Ok(Request::Shares {
-        table: read_at(alloc, json, "table")?,
-        id: read_at(alloc, json, "id")?,
+        table: take_at(alloc, &mut members, "table")?,
+        id: take_at(alloc, &mut members, "id")?,
     })
 }
 
-#[tactic(auto, unfolding(crate::specs::Requests::request_for))]
-pub(crate) fn query(alloc: Global, json: &Json) -> Result<Request, AllocError>
-    ensures { IfOk result (λ request. request ≡ say.request_for Verb.Query (view json.now) []) }
+pub(crate) fn query(alloc: Global, json: Json) -> Result<Request, AllocError>
+    ensures { IfOk result (λ request. request ≡ say.request_for Verb.Query (view json) []) }
 {
     Ok(Request::Query {
         query: query_of(alloc, json)?,
     })
 }
 
-#[tactic(auto, unfolding(crate::specs::Requests::request_for))]
-pub(crate) fn changes(alloc: Global, json: &Json) -> Result<Request, AllocError>
-    ensures { IfOk result (λ request. request ≡ say.request_for Verb.Changes (view json.now) []) }
+pub(crate) fn changes(alloc: Global, json: Json) -> Result<Request, AllocError>
+    ensures { IfOk result (λ request. request ≡ say.request_for Verb.Changes (view json) []) }
 {
+    let mut members = members_of(alloc, json);
     Ok(Request::Changes {
-        table: read_at(alloc, json, "table")?,
-        token: token_if(json, "token"),
-        count: integer_or(alloc, 5000, json, "count")?,
+        table: take_at(alloc, &mut members, "table")?,
+        token: token_if(&members, "token"),
+        count: integer_or(alloc, 5000, &mut members, "count")?,
     })
 }
 
-#[tactic(auto, unfolding(crate::specs::Requests::request_for))]
-pub(crate) fn rollup(alloc: Global, json: &Json) -> Result<Request, AllocError>
-    ensures { IfOk result (λ request. request ≡ say.request_for Verb.Rollup (view json.now) []) }
+pub(crate) fn rollup(alloc: Global, json: Json) -> Result<Request, AllocError>
+    ensures { IfOk result (λ request. request ≡ say.request_for Verb.Rollup (view json) []) }
 {
+    let mut members = members_of(alloc, json);
     Ok(Request::Rollup {
-        table: read_at(alloc, json, "table")?,
-        id: read_at(alloc, json, "id")?,
-        column: read_at(alloc, json, "column")?,
+        table: take_at(alloc, &mut members, "table")?,
+        id: take_at(alloc, &mut members, "id")?,
+        column: take_at(alloc, &mut members, "column")?,
     })
 }
 
-#[tactic(auto, unfolding(crate::specs::Requests::request_for))]
-pub(crate) fn trim(json: &Json) -> Request
-    ensures { result ≡ say.request_for Verb.Trim (view json.now) [] }
+pub(crate) fn trim(alloc: Global, json: Json) -> Request
+    ensures { result ≡ say.request_for Verb.Trim (view json) [] }
 {
+    let members = members_of(alloc, json);
     Request::Trim {
-        token: version_if(json, "token").unwrap_or(0),
+        token: version_if(&members, "token").unwrap_or(0),
     }
 }

@@ -1,41 +1,45 @@
-ghost use Rattle.std.specs.Prelude.{◌≡◌, map, IfOk, codes};
-ghost use Rattle.serde_json.specs.View.{view};
-ghost use Rattle.dv_wire.specs.Members.{list_at as items_under};
+ghost use Rattle.std.specs.Prelude.{◌≡◌, map, unwrap_or, option_map, IfOk, codes, []};
+ghost use Rattle.serde_json.specs.Data.{object};
+ghost use Rattle.serde_json.specs.Find.{get_member};
+ghost use Rattle.serde_json.specs.View.{view, members_view};
+ghost use Rattle.dv_value.specs.Json.{without};
+ghost use Rattle.dv_wire.specs.Members.{list_in};
 ghost use Rattle.dv_wire.specs.Queries as say;
 
-use crate::member::{integer_or, list_at, list_if, raws_at, says_at, str_at};
-use dv_form::{read_at, read_given};
+use crate::member::{integer_or, raws_of, take_items, take_list};
+use dv_form::{members_of, says_at, take_at, take_given, text_at};
 use dv_query::{Condition, Filter, Join, Link, Operator, Order, PageStart, Part, Query};
-use dv_value::{Text, items_with_capacity};
-use serde_json::Value as Json;
+use dv_value::{Text, items_with_capacity, take_member};
+use serde_json::{Map, Value as Json};
 use sqlite_items::Items;
 use std::alloc::{AllocError, Global};
 
 // The query that an object without a fault is.
-#[tactic(auto, unfolding(crate::specs::Queries::query_of))]
-pub(crate) fn query_of(alloc: Global, json: &Json) -> Result<Query, AllocError>
-    ensures { IfOk result (λ query. query ≡ say.query_of (view json.now)) }
+#[tactic(auto, using(dv_form::proofs::Reading::taken), unfolding(crate::specs::Queries::query_of, crate::specs::Queries::filter_at, crate::specs::Members::list_if))]
+pub(crate) fn query_of(alloc: Global, json: Json) -> Result<Query, AllocError>
+    ensures { IfOk result (λ query. query ≡ say.query_of (view json)) }
 {
+    let mut members = members_of(alloc, json);
     Ok(Query {
-        table: read_at(alloc, json, "table")?,
-        columns: read_given(alloc, json, "columns")?,
-        filter: filter_at(alloc, json)?,
-        links: links_of(alloc, list_at(json, "links"))?,
-        orders: orders_of(alloc, list_at(json, "orders"))?,
-        part: part_of(alloc, json)?,
+        table: take_at(alloc, &mut members, "table")?,
+        columns: take_given(alloc, &mut members, "columns")?,
+        filter: filter_at(alloc, &mut members)?,
+        links: links_of(alloc, take_items(alloc, &mut members, "links"))?,
+        orders: orders_of(alloc, take_items(alloc, &mut members, "orders"))?,
+        part: part_of(alloc, &mut members)?,
     })
 }
 
 // The part of the answer that is asked for.
-#[tactic(auto, unfolding(crate::specs::Queries::part_of))]
-fn part_of(alloc: Global, json: &Json) -> Result<Part, AllocError>
-    ensures { IfOk result (λ part. part ≡ say.part_of (view json.now)) }
+#[tactic(auto, using(dv_form::proofs::Reading::taken), unfolding(crate::specs::Queries::part_said))]
+fn part_of(alloc: Global, members: &mut Map<String, Json>) -> Result<Part, AllocError>
+    ensures { IfOk result (λ part. part ≡ say.part_said (get_member (codes "top") (members_view members.old.entries)) (get_member (codes "page") (members_view members.old.entries))) }
 {
-    let top: Option<i64> = read_given(alloc, json, "top")?;
+    let top: Option<i64> = take_given(alloc, members, "top")?;
     if let Some(n) = top {
         return Ok(Part::Top(n));
     }
-    match json.get("page") {
+    match take_member(members, "page") {
         Some(page) => Ok(page_of(alloc, page)?),
         None => Ok(Part::Page {
             size: 5000,
@@ -46,32 +50,33 @@ fn part_of(alloc: Global, json: &Json) -> Result<Part, AllocError>
 }
 
 // The page that an object is.
-#[tactic(auto, unfolding(crate::specs::Queries::page_of))]
-fn page_of(alloc: Global, json: &Json) -> Result<Part, AllocError>
-    ensures { IfOk result (λ part. part ≡ say.page_of (view json.now)) }
+#[tactic(auto, using(dv_form::proofs::Reading::taken), unfolding(crate::specs::Queries::page_of))]
+fn page_of(alloc: Global, json: Json) -> Result<Part, AllocError>
+    ensures { IfOk result (λ part. part ≡ say.page_of (view json)) }
 {
+    let mut members = members_of(alloc, json);
     Ok(Part::Page {
-        size: integer_or(alloc, 5000, json, "size")?,
-        from: start_of(alloc, json)?,
-        total: read_at(alloc, json, "total")?,
+        size: integer_or(alloc, 5000, &mut members, "size")?,
+        total: take_at(alloc, &mut members, "total")?,
+        from: start_of(alloc, &mut members)?,
     })
 }
 
 // Where a page begins.
-#[tactic(auto, unfolding(crate::specs::Queries::start_of))]
-fn start_of(alloc: Global, json: &Json) -> Result<PageStart, AllocError>
-    ensures { IfOk result (λ start. start ≡ say.start_of (view json.now)) }
+#[tactic(auto, using(dv_form::proofs::Reading::taken), unfolding(crate::specs::Queries::start_said))]
+fn start_of(alloc: Global, members: &mut Map<String, Json>) -> Result<PageStart, AllocError>
+    ensures { IfOk result (λ start. start ≡ say.start_said (get_member (codes "cookie") (members_view members.old.entries)) (get_member (codes "number") (members_view members.old.entries))) }
 {
-    let cookie: Option<Text> = read_given(alloc, json, "cookie")?;
+    let cookie: Option<Text> = take_given(alloc, members, "cookie")?;
     match cookie {
         Some(cookie) => Ok(PageStart::Cookie(cookie)),
-        None => Ok(PageStart::Number(integer_or(alloc, 1, json, "number")?)),
+        None => Ok(PageStart::Number(integer_or(alloc, 1, members, "number")?)),
     }
 }
 
 // The orders that items are.
-fn orders_of(alloc: Global, items: &[Json]) -> Result<Items<Order>, AllocError>
-    ensures { IfOk result (λ orders. orders ≡ map say.order_of (map view items.now)) }
+fn orders_of(alloc: Global, items: Vec<Json>) -> Result<Items<Order>, AllocError>
+    ensures { IfOk result (λ orders. orders ≡ map say.order_of (map view items.items)) }
 {
     let mut orders = items_with_capacity(alloc, items.len())?;
     for item in items {
@@ -81,23 +86,27 @@ fn orders_of(alloc: Global, items: &[Json]) -> Result<Items<Order>, AllocError>
 }
 
 // The order that an object is.
-#[tactic(auto, unfolding(crate::specs::Queries::order_of))]
-fn order_of(alloc: Global, json: &Json) -> Result<Order, AllocError>
-    ensures { IfOk result (λ order. order ≡ say.order_of (view json.now)) }
+#[tactic(auto, using(dv_form::proofs::Reading::taken), unfolding(crate::specs::Queries::order_of))]
+fn order_of(alloc: Global, json: Json) -> Result<Order, AllocError>
+    ensures { IfOk result (λ order. order ≡ say.order_of (view json)) }
 {
+    let mut members = members_of(alloc, json);
     Ok(Order {
-        column: read_at(alloc, json, "column")?,
-        link: read_given(alloc, json, "link")?,
-        descending: read_at(alloc, json, "desc")?,
+        column: take_at(alloc, &mut members, "column")?,
+        link: take_given(alloc, &mut members, "link")?,
+        descending: take_at(alloc, &mut members, "desc")?,
     })
 }
 
-// The filter of an object that may have one.
-#[tactic(auto, unfolding(crate::specs::Queries::filter_at))]
-fn filter_at(alloc: Global, json: &Json) -> Result<Option<Filter>, AllocError>
-    ensures { IfOk result (λ filter. filter ≡ say.filter_at (view json.now)) }
+// The filter of an object that may have one, which is taken out of it.
+fn filter_at(
+    alloc: Global,
+    members: &mut Map<String, Json>,
+) -> Result<Option<Filter>, AllocError>
+    ensures value { IfOk result (λ filter. filter ≡ option_map say.filter_of (get_member (codes "filter") (members_view members.old.entries))) }
+    ensures rest { members_view members.new.entries ≡ without (codes "filter") (members_view members.old.entries) }
 {
-    match json.get("filter") {
+    match take_member(members, "filter") {
         Some(filter) => Ok(Some(filter_of(alloc, filter)?)),
         None => Ok(None),
     }
@@ -105,22 +114,25 @@ fn filter_at(alloc: Global, json: &Json) -> Result<Option<Filter>, AllocError>
 
 // The filter that an object is.
 #[cycle(filters)]
-fn filter_of(alloc: Global, json: &Json) -> Result<Filter, AllocError>
-    ensures { IfOk result (λ filter. filter ≡ say.filter_of (view json.now)) }
+fn filter_of(alloc: Global, json: Json) -> Result<Filter, AllocError>
+    ensures { IfOk result (λ filter. filter ≡ say.filter_of (view json)) }
 {
+    let mut members = members_of(alloc, json);
+    let filters = filters_in(alloc, &mut members)?;
     Ok(Filter {
-        any: says_at(json, "op", "or"),
-        conditions: conditions_of(alloc, list_at(json, "conditions"))?,
-        filters: filters_in(alloc, json)?,
+        any: says_at(&members, "op", "or"),
+        conditions: conditions_of(alloc, take_items(alloc, &mut members, "conditions"))?,
+        filters,
     })
 }
 
 // The filters in a filter.
 #[cycle(filters)]
-fn filters_in(alloc: Global, json: &Json) -> Result<Items<Filter>, AllocError>
-    ensures { IfOk result (λ filters. filters ≡ map say.filter_of (items_under (codes "filters") (view json.now))) }
+fn filters_in(alloc: Global, members: &mut Map<String, Json>) -> Result<Items<Filter>, AllocError>
+    ensures value { IfOk result (λ filters. filters ≡ map say.filter_of (unwrap_or (list_in (codes "filters") (members_view members.old.entries)) [])) }
+    ensures rest { members_view members.new.entries ≡ without (codes "filters") (members_view members.old.entries) }
 {
-    match list_if(json, "filters") {
+    match take_list(members, "filters") {
         Some(items) => Ok(filters_of(alloc, items)?),
         None => Ok(Items::new(alloc)),
     }
@@ -128,8 +140,8 @@ fn filters_in(alloc: Global, json: &Json) -> Result<Items<Filter>, AllocError>
 
 // The filters that items are.
 #[cycle(filters)]
-fn filters_of(alloc: Global, items: &[Json]) -> Result<Items<Filter>, AllocError>
-    ensures { IfOk result (λ filters. filters ≡ map say.filter_of (map view items.now)) }
+fn filters_of(alloc: Global, items: Vec<Json>) -> Result<Items<Filter>, AllocError>
+    ensures { IfOk result (λ filters. filters ≡ map say.filter_of (map view items.items)) }
 {
     let mut filters = items_with_capacity(alloc, items.len())?;
     for item in items {
@@ -139,8 +151,8 @@ fn filters_of(alloc: Global, items: &[Json]) -> Result<Items<Filter>, AllocError
 }
 
 // The conditions that items are.
-fn conditions_of(alloc: Global, items: &[Json]) -> Result<Items<Condition>, AllocError>
-    ensures { IfOk result (λ conditions. conditions ≡ map say.condition_of (map view items.now)) }
+fn conditions_of(alloc: Global, items: Vec<Json>) -> Result<Items<Condition>, AllocError>
+    ensures { IfOk result (λ conditions. conditions ≡ map say.condition_of (map view items.items)) }
 {
     let mut conditions = items_with_capacity(alloc, items.len())?;
     for item in items {
@@ -150,24 +162,25 @@ fn conditions_of(alloc: Global, items: &[Json]) -> Result<Items<Condition>, Allo
 }
 
 // The condition that an object is.
-#[tactic(auto, unfolding(crate::specs::Queries::condition_of))]
-fn condition_of(alloc: Global, json: &Json) -> Result<Condition, AllocError>
-    ensures { IfOk result (λ condition. condition ≡ say.condition_of (view json.now)) }
+#[tactic(auto, using(dv_form::proofs::Reading::taken), unfolding(crate::specs::Queries::condition_of, crate::specs::Queries::operator_at, crate::specs::Members::list_if))]
+fn condition_of(alloc: Global, json: Json) -> Result<Condition, AllocError>
+    ensures { IfOk result (λ condition. condition ≡ say.condition_of (view json)) }
 {
+    let mut members = members_of(alloc, json);
     Ok(Condition {
-        column: read_at(alloc, json, "column")?,
-        link: read_given(alloc, json, "link")?,
-        operator: operator_at(json),
-        values: raws_at(alloc, json, "values")?,
+        column: take_at(alloc, &mut members, "column")?,
+        link: take_given(alloc, &mut members, "link")?,
+        operator: operator_at(&members),
+        values: raws_of(alloc, take_items(alloc, &mut members, "values"))?,
     })
 }
 
 // The operator of a condition.
 #[tactic(auto, unfolding(crate::specs::Queries::operator_at))]
-fn operator_at(json: &Json) -> Operator
-    ensures { result ≡ say.operator_at (view json.now) }
+fn operator_at(members: &Map<String, Json>) -> Operator
+    ensures { result ≡ say.operator_at (object (members_view members.now.entries)) }
 {
-    match str_at(json, "is") {
+    match text_at(members, "is") {
         Some(word) => Operator::parse(word).unwrap_or(Operator::Eq),
         None => Operator::Eq,
     }
@@ -175,10 +188,10 @@ fn operator_at(json: &Json) -> Operator
 
 // The way to join of a link.
 #[tactic(auto, unfolding(crate::specs::Queries::join_at))]
-fn join_at(json: &Json) -> Join
-    ensures { result ≡ say.join_at (view json.now) }
+fn join_at(members: &Map<String, Json>) -> Join
+    ensures { result ≡ say.join_at (object (members_view members.now.entries)) }
 {
-    match str_at(json, "join") {
+    match text_at(members, "join") {
         Some(word) => Join::parse(word).unwrap_or(Join::Inner),
         None => Join::Inner,
     }
@@ -186,27 +199,30 @@ fn join_at(json: &Json) -> Join
 
 // The link that an object is.
 #[cycle(links)]
-fn link_of(alloc: Global, json: &Json) -> Result<Link, AllocError>
-    ensures { IfOk result (λ link. link ≡ say.link_of (view json.now)) }
+fn link_of(alloc: Global, json: Json) -> Result<Link, AllocError>
+    ensures { IfOk result (λ link. link ≡ say.link_of (view json)) }
 {
+    let mut members = members_of(alloc, json);
+    let links = links_under(alloc, &mut members)?;
     Ok(Link {
-        table: read_at(alloc, json, "table")?,
-        from: read_at(alloc, json, "from")?,
-        to: read_at(alloc, json, "to")?,
-        join: join_at(json),
-        alias: read_given(alloc, json, "alias")?,
-        columns: read_at(alloc, json, "columns")?,
-        filter: filter_at(alloc, json)?,
-        links: links_under(alloc, json)?,
+        table: take_at(alloc, &mut members, "table")?,
+        from: take_at(alloc, &mut members, "from")?,
+        to: take_at(alloc, &mut members, "to")?,
+        join: join_at(&members),
+        alias: take_given(alloc, &mut members, "alias")?,
+        columns: take_at(alloc, &mut members, "columns")?,
+        filter: filter_at(alloc, &mut members)?,
+        links,
     })
 }
 
 // The links under a link.
 #[cycle(links)]
-fn links_under(alloc: Global, json: &Json) -> Result<Items<Link>, AllocError>
-    ensures { IfOk result (λ links. links ≡ map say.link_of (items_under (codes "links") (view json.now))) }
+fn links_under(alloc: Global, members: &mut Map<String, Json>) -> Result<Items<Link>, AllocError>
+    ensures value { IfOk result (λ links. links ≡ map say.link_of (unwrap_or (list_in (codes "links") (members_view members.old.entries)) [])) }
+    ensures rest { members_view members.new.entries ≡ without (codes "links") (members_view members.old.entries) }
 {
-    match list_if(json, "links") {
+    match take_list(members, "links") {
         Some(items) => Ok(links_of(alloc, items)?),
         None => Ok(Items::new(alloc)),
     }
@@ -214,8 +230,8 @@ fn links_under(alloc: Global, json: &Json) -> Result<Items<Link>, AllocError>
 
 // The links that items are.
 #[cycle(links)]
-fn links_of(alloc: Global, items: &[Json]) -> Result<Items<Link>, AllocError>
-    ensures { IfOk result (λ links. links ≡ map say.link_of (map view items.now)) }
+fn links_of(alloc: Global, items: Vec<Json>) -> Result<Items<Link>, AllocError>
+    ensures { IfOk result (λ links. links ≡ map say.link_of (map view items.items)) }
 {
     let mut links = items_with_capacity(alloc, items.len())?;
     for item in items {

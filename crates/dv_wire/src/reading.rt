@@ -1,48 +1,26 @@
-ghost use Rattle.std.specs.Prelude.{◌≡◌, [], map, IfOk, codes};
-ghost use Rattle.serde_json.specs.View.{view};
-ghost use Rattle.dv_wire.specs.Members.{list_at as items_under};
+ghost use Rattle.std.specs.Prelude.{◌≡◌, [], map, unwrap_or, IfOk, codes};
+ghost use Rattle.serde_json.specs.View.{view, members_view};
+ghost use Rattle.dv_value.specs.Json.{without};
+ghost use Rattle.dv_wire.specs.Members.{list_in, list_at as items_under};
 ghost use Rattle.dv_wire.specs.Requests as say;
 
-use crate::member::{list_if, str_at};
+use crate::member::take_list;
 use crate::verb::Verb;
 use crate::{administering as admin, asking as ask};
-use dv_form::read_at;
+use dv_form::{members_of, take_at};
 use dv_request::Request;
 use dv_value::items_with_capacity;
-use serde_json::Value as Json;
+use serde_json::{Map, Value as Json};
 use sqlite_items::Items;
 use std::alloc::{AllocError, Global};
 
-/// The request that an object without a fault is.
+/// The request that an object without a fault is. Its texts are taken over and not copied.
 #[cycle(requests)]
-pub(crate) fn request_of(alloc: Global, json: &Json) -> Result<Request, AllocError>
-    ensures { IfOk result (λ request. request ≡ say.request_of (view json.now)) }
+pub(crate) fn request_of(alloc: Global, json: Json) -> Result<Request, AllocError>
+    ensures { IfOk result (λ request. request ≡ say.request_of (view json)) }
 {
-    let requests = requests_in(alloc, json)?;
-    Ok(request_for(alloc, verb_at(json), json, requests)?)
-}
-
-// The requests in a batch.
-#[cycle(requests)]
-fn requests_in(alloc: Global, json: &Json) -> Result<Items<Request>, AllocError>
-    ensures { IfOk result (λ requests. requests ≡ map say.request_of (items_under (codes "requests") (view json.now))) }
-{
-    match list_if(json, "requests") {
-        Some(items) => Ok(requests_of(alloc, items)?),
-        None => Ok(Items::new(alloc)),
-    }
-}
-
-// The requests that items are.
-#[cycle(requests)]
-fn requests_of(alloc: Global, items: &[Json]) -> Result<Items<Request>, AllocError>
-    ensures { IfOk result (λ requests. requests ≡ map say.request_of (map view items.now)) }
-{
-    let mut requests = items_with_capacity(alloc, items.len())?;
-    for item in items {
-        requests.push(request_of(alloc, item)?)?;
-    }
-    Ok(requests)
+    let verb = verb_at(&json);
+    Ok(request_for(alloc, verb, json)?)
 }
 
 // What a request asks.
@@ -50,21 +28,17 @@ fn requests_of(alloc: Global, items: &[Json]) -> Result<Items<Request>, AllocErr
 fn verb_at(json: &Json) -> Verb
     ensures { result ≡ say.verb_at (view json.now) }
 {
-    match str_at(json, "do") {
+    match json.get("do").and_then(Json::as_str) {
         Some(word) => Verb::parse(word).unwrap_or(Verb::WhoAmI),
         None => Verb::WhoAmI,
     }
 }
 
-// The request that asks this, with the requests in it.
+// The request that asks this.
+#[cycle(requests)]
 #[tactic(auto, unfolding(crate::specs::Requests::request_for))]
-fn request_for(
-    alloc: Global,
-    verb: Verb,
-    json: &Json,
-    requests: Items<Request>,
-) -> Result<Request, AllocError>
-    ensures { IfOk result (λ request. request ≡ say.request_for verb (view json.now) requests) }
+fn request_for(alloc: Global, verb: Verb, json: Json) -> Result<Request, AllocError>
+    ensures { IfOk result (λ request. request ≡ say.request_for verb (view json) (map say.request_of (items_under (codes "requests") (view json)))) }
 {
     match verb {
         Verb::Create => Ok(ask::create(alloc, json)?),
@@ -82,9 +56,9 @@ fn request_for(
         Verb::Rollup => Ok(ask::rollup(alloc, json)?),
         Verb::WhoAmI => Ok(Request::WhoAmI),
         Verb::RollupJob => Ok(Request::RollupJob),
-        Verb::Trim => Ok(ask::trim(json)),
-        Verb::Multiple => Ok(multiple(alloc, json, requests)?),
-        Verb::Transaction => Ok(Request::Transaction { requests }),
+        Verb::Trim => Ok(ask::trim(alloc, json)),
+        Verb::Multiple => Ok(multiple(alloc, json)?),
+        Verb::Transaction => Ok(transaction(alloc, json)?),
         Verb::AddUnit => Ok(admin::add_unit(alloc, json)?),
         Verb::MoveUnit => Ok(admin::move_unit(alloc, json)?),
         Verb::AddUser => Ok(admin::add_user(alloc, json)?),
@@ -100,13 +74,49 @@ fn request_for(
     }
 }
 
-#[tactic(auto, unfolding(crate::specs::Requests::request_for))]
-fn multiple(alloc: Global, json: &Json, requests: Items<Request>) -> Result<Request, AllocError>
-    ensures { IfOk result (λ request. request ≡ say.request_for Verb.Multiple (view json.now) requests) }
+// Several requests, each with a reply of its own.
+#[cycle(requests)]
+fn multiple(alloc: Global, json: Json) -> Result<Request, AllocError>
+    ensures { IfOk result (λ request. request ≡ say.request_for Verb.Multiple (view json) (map say.request_of (items_under (codes "requests") (view json)))) }
 {
-    let continue_ = read_at(alloc, json, "continue")?;
+    let mut members = members_of(alloc, json);
     Ok(Request::Multiple {
-        requests,
-        continue_,
+        requests: requests_in(alloc, &mut members)?,
+        continue_: take_at(alloc, &mut members, "continue")?,
     })
+}
+
+// Several requests, of which all are done or none.
+#[cycle(requests)]
+fn transaction(alloc: Global, json: Json) -> Result<Request, AllocError>
+    ensures { IfOk result (λ request. request ≡ say.request_for Verb.Transaction (view json) (map say.request_of (items_under (codes "requests") (view json)))) }
+{
+    let mut members = members_of(alloc, json);
+    Ok(Request::Transaction {
+        requests: requests_in(alloc, &mut members)?,
+    })
+}
+
+// The requests in a batch.
+#[cycle(requests)]
+fn requests_in(alloc: Global, members: &mut Map<String, Json>) -> Result<Items<Request>, AllocError>
+    ensures value { IfOk result (λ requests. requests ≡ map say.request_of (unwrap_or (list_in (codes "requests") (members_view members.old.entries)) [])) }
+    ensures rest { members_view members.new.entries ≡ without (codes "requests") (members_view members.old.entries) }
+{
+    match take_list(members, "requests") {
+        Some(items) => Ok(requests_of(alloc, items)?),
+        None => Ok(Items::new(alloc)),
+    }
+}
+
+// The requests that items are.
+#[cycle(requests)]
+fn requests_of(alloc: Global, items: Vec<Json>) -> Result<Items<Request>, AllocError>
+    ensures { IfOk result (λ requests. requests ≡ map say.request_of (map view items.items)) }
+{
+    let mut requests = items_with_capacity(alloc, items.len())?;
+    for item in items {
+        requests.push(request_of(alloc, item)?)?;
+    }
+    Ok(requests)
 }

@@ -1,15 +1,18 @@
 ghost use Rattle.std.specs.Prelude.{◌≡◌, ℕ, List, Some, IfOk, IsErrOf};
 ghost use Rattle.serde_json.specs.Data.{Data};
+ghost use Rattle.serde_json.specs.View.{view};
+ghost use Rattle.dv_form.specs.Members.{id_of_json};
+ghost use Rattle.dv_meta.specs.Reading.{at};
 ghost use Rattle.dv_value.specs.Json.{json_of};
 ghost use Rattle.dv_wire.specs.Reads.{spelled, faulty, reads};
 ghost use Rattle.dv_wire.specs.Spelled.{IsSpelled};
 
 use crate::grammar::Rule;
-use crate::member::empty_text;
 use crate::reading::request_of;
-use dv_form::{first_fault, read_at};
+use dv_form::{first_fault, id_in};
 use dv_request::Request;
 use dv_value::{Id, JsonFault, Text, read_json};
+use serde_json::Value as Json;
 use std::alloc::{AllocError, Global};
 
 /// Why a line isn't read as a request.
@@ -43,11 +46,22 @@ pub fn read_request(alloc: Global, bytes: &[u8]) -> Result<(Id, Request), WireFa
 {
     let json = match read_json(alloc, bytes) {
         Ok(json) => json,
-        Err(JsonFault::Malformed) => return Err(WireFault::Malformed(empty_text(alloc))),
+        Err(JsonFault::Malformed) => return Err(WireFault::Malformed(Text::new(alloc))),
         Err(JsonFault::OutOfMemory) => return Err(WireFault::OutOfMemory),
     };
     match first_fault(alloc, &json, Rule::Request)? {
         Some(fault) => Err(WireFault::Malformed(fault.place)),
-        None => Ok((read_at(alloc, &json, "caller")?, request_of(alloc, &json)?)),
+        None => Ok((caller_of(&json), request_of(alloc, json)?)),
+    }
+}
+
+// Whose request an object without a fault is.
+#[tactic(auto, unfolding(dv_form::specs::Members::id_of_json, dv_form::specs::Members::id_in))]
+fn caller_of(json: &Json) -> Id
+    ensures { result ≡ id_of_json (at "caller" (view json.now)) }
+{
+    match json.get("caller") {
+        Some(caller) => id_in(caller).unwrap_or(Id(0)),
+        None => Id(0),
     }
 }

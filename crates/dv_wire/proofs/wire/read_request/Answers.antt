@@ -7,15 +7,15 @@ use Rattle.dv_wire.proofs.wire.read_request.Goals as goal
 
 pub returns-in-Err-Malformed-clause-malformed : goal.returns-in-Err-Malformed-clause-malformed
 returns-in-Err-Malformed-clause-malformed c = λ place is.
-    told c.empty_text.result place (reads c.args.bytes.now) (reads-none c.args.bytes.now (c.in-Err-Malformed.ensures.malformed (ap Err c.in-Err-Malformed.field-0-is)) ∙ ap faulty (sym c.empty_text.ensures)) is
+    told c.new.result place (reads c.args.bytes.now) (reads-none c.args.bytes.now (c.in-Err-Malformed.ensures.malformed (ap Err c.in-Err-Malformed.field-0-is)) ∙ ap faulty (sym c.new.ensures)) is
 
 pub returns-in-Some-clause-malformed : goal.returns-in-Some-clause-malformed
 returns-in-Some-clause-malformed c = λ place is.
     told c.in-Some.fault.place place (reads c.args.bytes.now) (reads-fault c.args.bytes.now (view c.in-Ok.json) c.in-Some.fault c.in-Ok.ensures.ok (sym c.in-Some.is ∙ c.in_ok-fault.ensures)) is
 
-pub returns-clause-spelled : goal.returns-clause-spelled
-returns-clause-spelled c =
-    reads-request c.args.bytes.now (view c.in-Ok.json) _ _ c.in-Ok.ensures.ok (sym c.in-None.is ∙ c.in_ok-fault.ensures) c.in_ok-read_at-in-None.ensures c.in_ok-request_of-in-None.ensures
+pub returns-in_ok-request_of-in-None-clause-spelled : goal.returns-in_ok-request_of-in-None-clause-spelled
+returns-in_ok-request_of-in-None-clause-spelled c =
+    reads-request c.args.bytes.now (view c.in-Ok.json) _ _ c.in-Ok.ensures.ok (sym c.in-None.is ∙ c.in_ok-fault.ensures) c.caller_of.ensures c.in_ok-request_of-in-None.ensures
 
-pub returns-clause-members : goal.returns-clause-members
-returns-clause-members c = λ d is. spelled-line c.args.bytes.now d (view c.in-Ok.json) c.in-Ok.ensures.ok (sym c.in-None.is ∙ c.in_ok-fault.ensures) is
+pub returns-in_ok-request_of-in-None-clause-members : goal.returns-in_ok-request_of-in-None-clause-members
+returns-in_ok-request_of-in-None-clause-members c = λ d is. spelled-line c.args.bytes.now d (view c.in-Ok.json) c.in-Ok.ensures.ok (sym c.in-None.is ∙ c.in_ok-fault.ensures) is
