@@ -70,7 +70,7 @@ fn members(alloc: Global, row: u32) -> Result<Map<String, Json>, AllocError> {
 fn page(alloc: Global, rows: u32) -> Result<Reply, AllocError> {
     let mut page = Items::new(alloc);
     for row in 0..rows {
-        if let Some(values) = Values::from_json(alloc, &members(alloc, row)?)? {
+        if let Some(values) = Values::from_json(alloc, members(alloc, row)?)? {
             page.push(values)?;
         }
     }

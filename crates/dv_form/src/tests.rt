@@ -1,6 +1,6 @@
 use crate::{
-    Bar, Case, FaultKind, Form, Grammar, Member, Spelling, Table, first_fault, is_name, read_at,
-    read_given,
+    Bar, Case, FaultKind, Form, Grammar, Member, Spelling, Table, first_fault, is_name, members_of,
+    says_at, take_at, take_given, text_at,
 };
 use dv_value::{Id, Names, Text, Values};
 use serde_json::Value as Json;
@@ -182,29 +182,46 @@ fn the_first_fault_of_the_walk_is_told_at_its_place(rt: HostRuntime) -> Result<(
 
 #[test]
 fn members_are_read_by_their_type(rt: HostRuntime) -> Result<(), Fail> {
+    let alloc = rt.alloc();
     let text =
-        r#"{"id":"00000000-0000-0000-0000-000000000007","names":["a","b"],"flag":true,"n":-3,"many":70000,"values":{"a":1}}"#;
-    let json = Json::from_str(rt.alloc(), text)?;
-    let id: Id = read_at(rt.alloc(), &json, "id")?;
+        r#"{"id":"00000000-0000-0000-0000-000000000007","names":["a","b"],"flag":true,"n":-3,"short":-3,"many":70000,"size":70000,"byte":70000,"values":{"a":1}}"#;
+    let mut members = members_of(alloc, Json::from_str(alloc, text)?);
+    let id: Id = take_at(alloc, &mut members, "id")?;
     assert_eq!(rt; id, Id(7));
-    let names: Names = read_at(rt.alloc(), &json, "names")?;
+    let names: Names = take_at(alloc, &mut members, "names")?;
     assert_eq!(rt; names.len(), 2);
-    let flag: bool = read_at(rt.alloc(), &json, "flag")?;
+    let flag: bool = take_at(alloc, &mut members, "flag")?;
     assert!(rt; flag);
-    let n: i64 = read_at(rt.alloc(), &json, "n")?;
+    let n: i64 = take_at(alloc, &mut members, "n")?;
     assert_eq!(rt; n, -3);
-    let n: i32 = read_at(rt.alloc(), &json, "n")?;
+    let n: i32 = take_at(alloc, &mut members, "short")?;
     assert_eq!(rt; n, -3);
-    let many: u32 = read_at(rt.alloc(), &json, "many")?;
+    let many: u32 = take_at(alloc, &mut members, "many")?;
     assert_eq!(rt; many, 70000);
-    let many: usize = read_at(rt.alloc(), &json, "many")?;
+    let many: usize = take_at(alloc, &mut members, "size")?;
     assert_eq!(rt; many, 70000);
-    let many: u8 = read_at(rt.alloc(), &json, "many")?;
+    let many: u8 = take_at(alloc, &mut members, "byte")?;
     assert_eq!(rt; many, 0);
-    let values: Values = read_at(rt.alloc(), &json, "values")?;
+    let values: Values = take_at(alloc, &mut members, "values")?;
     assert_eq!(rt; values.as_slice().len(), 1);
-    let missing: Option<Text> = read_given(rt.alloc(), &json, "missing")?;
+    assert!(rt; members.is_empty());
+    let missing: Option<Text> = take_given(alloc, &mut members, "missing")?;
     assert!(rt; missing.is_none());
     assert!(rt; is_name("a_1") && !is_name("1a"));
+    Ok(())
+}
+
+#[test]
+fn a_member_is_taken_once(rt: HostRuntime) -> Result<(), Fail> {
+    let alloc = rt.alloc();
+    let mut members = members_of(alloc, Json::from_str(alloc, r#"{"a":"x","b":"y","c":1}"#)?);
+    assert!(rt; says_at(&members, "a", "x") && !says_at(&members, "a", "y"));
+    let first: Option<Text> = take_given(alloc, &mut members, "a")?;
+    assert!(rt; first.is_some_and(|text| text.is("x")));
+    let again: Option<Text> = take_given(alloc, &mut members, "a")?;
+    assert!(rt; again.is_none());
+    assert!(rt; text_at(&members, "b") == Some("y") && text_at(&members, "c").is_none());
+    assert!(rt; says_at(&members, "a", "") && says_at(&members, "c", ""));
+    assert_eq!(rt; members_of(alloc, Json::Null).len(), 0);
     Ok(())
 }

@@ -1,7 +1,7 @@
 use dv_meta::{Entry, Role};
 use dv_query::Query;
 use dv_value::{Id, Names, Text, Token, Values};
-use sqlite_items::Items;
+use sqlite_items::{Boxed, Items};
 
 /// A message to the organisation, without its caller.
 #[derive(Debug, Drop)]
@@ -68,9 +68,9 @@ pub enum Request {
         table: Text,
         id: Id,
     },
-    /// Gives rows that meet a query.
+    /// Gives rows that meet a query. The query is boxed, so that a list of other requests stays small.
     Query {
-        query: Query,
+        query: Boxed<Query>,
     },
     /// Gives what changed in a table since a token.
     Changes {

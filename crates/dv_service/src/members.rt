@@ -1,10 +1,11 @@
 //! What is read from a JSON object, member by member.
-ghost use Rattle.std.specs.Prelude.{◌≡◌, option_map, IfOk};
-ghost use Rattle.serde_json.specs.View.{view, items_view};
+ghost use Rattle.std.specs.Prelude.{◌≡◌, option_map, option_and_then, IfOk};
+ghost use Rattle.serde_json.specs.Find.{get, as_object};
+ghost use Rattle.serde_json.specs.View.{view, items_view, members_view};
 ghost use Rattle.dv_service.specs.Members.{has_members, has_word, id_at, text_at, number_at, list_at, list_of, values_at};
 
-use dv_value::{Id, Text, Values};
-use serde_json::Value as Json;
+use dv_value::{Id, Text, Values, take_member};
+use serde_json::{Map, Value as Json};
 use std::alloc::{AllocError, Global};
 
 /// Whether it is an object of so many members.
@@ -64,13 +65,33 @@ pub fn list_member<'a>(json: &'a Json, name: &str) -> Option<&'a Vec<Json>>
     json.get(name)?.as_array()
 }
 
-/// The raw values of the object at a name.
+/// The raw values of the object at a name, whose texts are taken over and not copied.
 #[tactic(auto, unfolding(crate::specs::Members::values_at))]
-pub fn values_member(alloc: Global, json: &Json, name: &str) -> Result<Option<Values>, AllocError>
-    ensures { IfOk result (λ values. values ≡ values_at name.now (view json.now)) }
+pub fn values_member(alloc: Global, json: Json, name: &str) -> Result<Option<Values>, AllocError>
+    ensures { IfOk result (λ values. values ≡ values_at name.now (view json)) }
 {
-    match json.get(name).and_then(Json::as_object) {
+    match take_object(json, name) {
         Some(members) => Ok(Values::from_json(alloc, members)?),
         None => Ok(None),
+    }
+}
+
+// The object at a name.
+fn take_object(json: Json, name: &str) -> Option<Map<String, Json>>
+    ensures { option_map (λ ms. members_view ms.entries) result ≡ option_and_then as_object (get name.now (view json)) }
+{
+    match json {
+        Json::Object(mut members) => object_in(take_member(&mut members, name)?),
+        Json::Null | Json::Bool(_) | Json::Number(_) | Json::String(_) | Json::Array(_) => None,
+    }
+}
+
+// The object that a value is.
+fn object_in(json: Json) -> Option<Map<String, Json>>
+    ensures { option_map (λ ms. members_view ms.entries) result ≡ as_object (view json) }
+{
+    match json {
+        Json::Object(members) => Some(members),
+        Json::Null | Json::Bool(_) | Json::Number(_) | Json::String(_) | Json::Array(_) => None,
     }
 }

@@ -37,19 +37,19 @@ fn read_names(alloc: Global, list: &Vec<Json>) -> Result<Option<Names>, AllocErr
 
 // What the object asks for.
 #[tactic(auto, unfolding(crate::specs::Requests::message_of))]
-fn read_message(alloc: Global, json: &Json) -> Result<Option<Message>, AllocError>
-    ensures { IfOk result (λ message. message ≡ message_of (view json.now)) }
+fn read_message(alloc: Global, json: Json) -> Result<Option<Message>, AllocError>
+    ensures { IfOk result (λ message. message ≡ message_of (view json)) }
 {
-    if has_word_at(json, "do", "create") {
+    if has_word_at(&json, "do", "create") {
         return match values_member(alloc, json, "values")? {
             Some(values) => Ok(Some(Message::Create(values))),
             None => Ok(None),
         };
     }
-    if !has_word_at(json, "do", "query") {
+    if !has_word_at(&json, "do", "query") {
         return Ok(None);
     }
-    let Some(list) = list_member(json, "columns") else {
+    let Some(list) = list_member(&json, "columns") else {
         return Ok(None);
     };
     match read_names(alloc, list)? {
@@ -60,16 +60,16 @@ fn read_message(alloc: Global, json: &Json) -> Result<Option<Message>, AllocErro
 
 /// The request that an object is, if it is one of those that are read today.
 #[tactic(auto, unfolding(crate::specs::Requests::request_of))]
-pub fn read_request(alloc: Global, json: &Json) -> Result<Option<Request>, AllocError>
-    ensures { IfOk result (λ request. request ≡ request_of (view json.now)) }
+pub fn read_request(alloc: Global, json: Json) -> Result<Option<Request>, AllocError>
+    ensures { IfOk result (λ request. request ≡ request_of (view json)) }
 {
-    if !has_count(json, 4) {
+    if !has_count(&json, 4) {
         return Ok(None);
     }
-    let Some(caller) = id_member(json, "caller") else {
+    let Some(caller) = id_member(&json, "caller") else {
         return Ok(None);
     };
-    let Some(table) = text_member(alloc, json, "table")? else {
+    let Some(table) = text_member(alloc, &json, "table")? else {
         return Ok(None);
     };
     match read_message(alloc, json)? {

@@ -221,7 +221,7 @@ pub fn serve_line(alloc: Global, org: &mut Org, line: Option<&[u8]>) -> Result<V
         let place = Text::from_string(String::new(alloc));
         return Ok(refuse(alloc, Refusal::Malformed { place })?);
     };
-    let Some(request) = read_request(alloc, &json)? else {
+    let Some(request) = read_request(alloc, json)? else {
         return Ok(refuse(alloc, Refusal::NotBuilt)?);
     };
     serve_request(alloc, org, &request)

@@ -1,5 +1,5 @@
 -- What is read of the items of a list is what is read of each by itself.
-use Rattle.std.proofs.Common.{◌≡◌, ℕ, ◌+◌, ◌≤◌, ◌<◌, suc, max, List, [], ◌∷◌, map, Option, Some, None, option_map, option_and_then, unwrap_or, refl, ap, subst, arith, Global, Ordering, Less, Equal, Greater}
+use Rattle.std.proofs.Common.{◌≡◌, ℕ, ◌+◌, ◌≤◌, max, List, [], ◌∷◌, map, Option, Some, None, option_map, option_and_then, unwrap_or, refl, ap, subst, arith, Global, Ordering, Less, Equal, Greater}
 use Rattle.std.specs.Ordering.{nat_cmp, match_ordering}
 use Rattle.std.specs.Vec.Iter.{into_iter_items, into_iter_steps}
 use Rattle.std.specs.declared.vec.IntoIter.{IntoIter}

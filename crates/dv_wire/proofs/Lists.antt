@@ -1,5 +1,5 @@
 -- The lists that are taken out of an object.
-use Rattle.std.proofs.Common.{◌≡◌, ℕ, List, [], refl, ap, option_map, option_and_then, unwrap_or, bytes_eq, false}
+use Rattle.std.proofs.Common.{◌≡◌, ℕ, List, [], ap, option_map, option_and_then, unwrap_or, bytes_eq, false}
 use Rattle.std.specs.List.{list_any}
 use Rattle.serde_json.specs.Data.{Data, Members}
 use Rattle.serde_json.specs.Find.{as_array}

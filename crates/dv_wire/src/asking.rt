@@ -10,6 +10,7 @@ use crate::verb::Verb;
 use dv_form::{members_of, take_at, take_given};
 use dv_request::Request;
 use serde_json::Value as Json;
+use sqlite_items::Boxed;
 use std::alloc::{AllocError, Global};
 
 pub(crate) fn create(alloc: Global, json: Json) -> Result<Request, AllocError>
@@ -128,7 +129,7 @@ pub(crate) fn query(alloc: Global, json: Json) -> Result<Request, AllocError>
     ensures { IfOk result (λ request. request ≡ say.request_for Verb.Query (view json) []) }
 {
     Ok(Request::Query {
-        query: query_of(alloc, json)?,
+        query: Boxed::new(alloc, query_of(alloc, json)?)?,
     })
 }
 

@@ -35,7 +35,7 @@ fn every_operator_is_read(rt: HostRuntime) -> Result<(), Fail> {
         )?;
         let got = reading(rt.alloc(), line.as_str())?;
         let want = format!(in rt.alloc();
-            "Query {{ query: Query {{ table: Text {{ inner: \"t\" }}, columns: None, filter: Some(Filter {{ any: false, conditions: Items {{ items: [Condition {{ column: Text {{ inner: \"a\" }}, link: None, operator: {operator}, values: Items {{ items: [] }} }}] }}, filters: Items {{ items: [] }} }}), links: Items {{ items: [] }}, orders: Items {{ items: [] }}, part: Top(1) }} }}"
+            "Query {{ query: Boxed {{ inner: Query {{ table: Text {{ inner: \"t\" }}, columns: None, filter: Some(Filter {{ any: false, conditions: Items {{ items: [Condition {{ column: Text {{ inner: \"a\" }}, link: None, operator: {operator}, values: Items {{ items: [] }} }}] }}, filters: Items {{ items: [] }} }}), links: Items {{ items: [] }}, orders: Items {{ items: [] }}, part: Top(1) }} }} }}"
         )?;
         assert_eq!(rt; got.as_str(), want.as_str());
     }
@@ -139,47 +139,47 @@ const ROWS: &[(&str, &str)] = &[
 const QUERIES: &[(&str, &str)] = &[
     (
         r#""do":"query","table":"t""#,
-        r#"Query { query: Query { table: Text { inner: "t" }, columns: None, filter: None, links: Items { items: [] }, orders: Items { items: [] }, part: Page { size: 5000, from: Number(1), total: false } } }"#,
+        r#"Query { query: Boxed { inner: Query { table: Text { inner: "t" }, columns: None, filter: None, links: Items { items: [] }, orders: Items { items: [] }, part: Page { size: 5000, from: Number(1), total: false } } } }"#,
     ),
     (
         r#""do":"query","table":"t","columns":[]"#,
-        r#"Query { query: Query { table: Text { inner: "t" }, columns: Some(Items { items: [] }), filter: None, links: Items { items: [] }, orders: Items { items: [] }, part: Page { size: 5000, from: Number(1), total: false } } }"#,
+        r#"Query { query: Boxed { inner: Query { table: Text { inner: "t" }, columns: Some(Items { items: [] }), filter: None, links: Items { items: [] }, orders: Items { items: [] }, part: Page { size: 5000, from: Number(1), total: false } } } }"#,
     ),
     (
         r#""do":"query","table":"t","columns":["b","a"],"top":-3"#,
-        r#"Query { query: Query { table: Text { inner: "t" }, columns: Some(Items { items: [Text { inner: "b" }, Text { inner: "a" }] }), filter: None, links: Items { items: [] }, orders: Items { items: [] }, part: Top(-3) } }"#,
+        r#"Query { query: Boxed { inner: Query { table: Text { inner: "t" }, columns: Some(Items { items: [Text { inner: "b" }, Text { inner: "a" }] }), filter: None, links: Items { items: [] }, orders: Items { items: [] }, part: Top(-3) } } }"#,
     ),
     (
         r#""do":"query","table":"t","page":{}"#,
-        r#"Query { query: Query { table: Text { inner: "t" }, columns: None, filter: None, links: Items { items: [] }, orders: Items { items: [] }, part: Page { size: 5000, from: Number(1), total: false } } }"#,
+        r#"Query { query: Boxed { inner: Query { table: Text { inner: "t" }, columns: None, filter: None, links: Items { items: [] }, orders: Items { items: [] }, part: Page { size: 5000, from: Number(1), total: false } } } }"#,
     ),
     (
         r#""do":"query","table":"t","page":{"size":2,"number":7,"total":true}"#,
-        r#"Query { query: Query { table: Text { inner: "t" }, columns: None, filter: None, links: Items { items: [] }, orders: Items { items: [] }, part: Page { size: 2, from: Number(7), total: true } } }"#,
+        r#"Query { query: Boxed { inner: Query { table: Text { inner: "t" }, columns: None, filter: None, links: Items { items: [] }, orders: Items { items: [] }, part: Page { size: 2, from: Number(7), total: true } } } }"#,
     ),
     (
         r#""do":"query","table":"t","page":{"cookie":"00"}"#,
-        r#"Query { query: Query { table: Text { inner: "t" }, columns: None, filter: None, links: Items { items: [] }, orders: Items { items: [] }, part: Page { size: 5000, from: Cookie(Text { inner: "00" }), total: false } } }"#,
+        r#"Query { query: Boxed { inner: Query { table: Text { inner: "t" }, columns: None, filter: None, links: Items { items: [] }, orders: Items { items: [] }, part: Page { size: 5000, from: Cookie(Text { inner: "00" }), total: false } } } }"#,
     ),
     (
         r#""do":"query","table":"t","orders":[{"column":"b","link":"l","desc":true},{"column":"a"}]"#,
-        r#"Query { query: Query { table: Text { inner: "t" }, columns: None, filter: None, links: Items { items: [] }, orders: Items { items: [Order { column: Text { inner: "b" }, link: Some(Text { inner: "l" }), descending: true }, Order { column: Text { inner: "a" }, link: None, descending: false }] }, part: Page { size: 5000, from: Number(1), total: false } } }"#,
+        r#"Query { query: Boxed { inner: Query { table: Text { inner: "t" }, columns: None, filter: None, links: Items { items: [] }, orders: Items { items: [Order { column: Text { inner: "b" }, link: Some(Text { inner: "l" }), descending: true }, Order { column: Text { inner: "a" }, link: None, descending: false }] }, part: Page { size: 5000, from: Number(1), total: false } } } }"#,
     ),
     (
         r#""do":"query","table":"t","filter":{}"#,
-        r#"Query { query: Query { table: Text { inner: "t" }, columns: None, filter: Some(Filter { any: false, conditions: Items { items: [] }, filters: Items { items: [] } }), links: Items { items: [] }, orders: Items { items: [] }, part: Page { size: 5000, from: Number(1), total: false } } }"#,
+        r#"Query { query: Boxed { inner: Query { table: Text { inner: "t" }, columns: None, filter: Some(Filter { any: false, conditions: Items { items: [] }, filters: Items { items: [] } }), links: Items { items: [] }, orders: Items { items: [] }, part: Page { size: 5000, from: Number(1), total: false } } } }"#,
     ),
     (
         r#""do":"query","table":"t","filter":{"op":"and"}"#,
-        r#"Query { query: Query { table: Text { inner: "t" }, columns: None, filter: Some(Filter { any: false, conditions: Items { items: [] }, filters: Items { items: [] } }), links: Items { items: [] }, orders: Items { items: [] }, part: Page { size: 5000, from: Number(1), total: false } } }"#,
+        r#"Query { query: Boxed { inner: Query { table: Text { inner: "t" }, columns: None, filter: Some(Filter { any: false, conditions: Items { items: [] }, filters: Items { items: [] } }), links: Items { items: [] }, orders: Items { items: [] }, part: Page { size: 5000, from: Number(1), total: false } } } }"#,
     ),
     (
         r#""do":"query","table":"t","filter":{"op":"or","filters":[{"filters":[{"op":"or"}]},{}],"conditions":[{"column":"a","is":"null"},{"column":"b","link":"l","is":"not-between","values":[1,"x",null,false]}]}"#,
-        r#"Query { query: Query { table: Text { inner: "t" }, columns: None, filter: Some(Filter { any: true, conditions: Items { items: [Condition { column: Text { inner: "a" }, link: None, operator: Null, values: Items { items: [] } }, Condition { column: Text { inner: "b" }, link: Some(Text { inner: "l" }), operator: NotBetween, values: Items { items: [Int(1), Str(Text { inner: "x" }), Null, Bool(false)] } }] }, filters: Items { items: [Filter { any: false, conditions: Items { items: [] }, filters: Items { items: [Filter { any: true, conditions: Items { items: [] }, filters: Items { items: [] } }] } }, Filter { any: false, conditions: Items { items: [] }, filters: Items { items: [] } }] } }), links: Items { items: [] }, orders: Items { items: [] }, part: Page { size: 5000, from: Number(1), total: false } } }"#,
+        r#"Query { query: Boxed { inner: Query { table: Text { inner: "t" }, columns: None, filter: Some(Filter { any: true, conditions: Items { items: [Condition { column: Text { inner: "a" }, link: None, operator: Null, values: Items { items: [] } }, Condition { column: Text { inner: "b" }, link: Some(Text { inner: "l" }), operator: NotBetween, values: Items { items: [Int(1), Str(Text { inner: "x" }), Null, Bool(false)] } }] }, filters: Items { items: [Filter { any: false, conditions: Items { items: [] }, filters: Items { items: [Filter { any: true, conditions: Items { items: [] }, filters: Items { items: [] } }] } }, Filter { any: false, conditions: Items { items: [] }, filters: Items { items: [] } }] } }), links: Items { items: [] }, orders: Items { items: [] }, part: Page { size: 5000, from: Number(1), total: false } } } }"#,
     ),
     (
         r#""do":"query","table":"t","links":[{"table":"u","from":"a","to":"b"},{"table":"v","from":"c","to":"d","join":"left","alias":"l","columns":["e"],"filter":{"op":"or"},"links":[{"table":"w","from":"f","to":"g","join":"exists"}]}]"#,
-        r#"Query { query: Query { table: Text { inner: "t" }, columns: None, filter: None, links: Items { items: [Link { table: Text { inner: "u" }, from: Text { inner: "a" }, to: Text { inner: "b" }, join: Inner, alias: None, columns: Items { items: [] }, filter: None, links: Items { items: [] } }, Link { table: Text { inner: "v" }, from: Text { inner: "c" }, to: Text { inner: "d" }, join: Left, alias: Some(Text { inner: "l" }), columns: Items { items: [Text { inner: "e" }] }, filter: Some(Filter { any: true, conditions: Items { items: [] }, filters: Items { items: [] } }), links: Items { items: [Link { table: Text { inner: "w" }, from: Text { inner: "f" }, to: Text { inner: "g" }, join: Exists, alias: None, columns: Items { items: [] }, filter: None, links: Items { items: [] } }] } }] }, orders: Items { items: [] }, part: Page { size: 5000, from: Number(1), total: false } } }"#,
+        r#"Query { query: Boxed { inner: Query { table: Text { inner: "t" }, columns: None, filter: None, links: Items { items: [Link { table: Text { inner: "u" }, from: Text { inner: "a" }, to: Text { inner: "b" }, join: Inner, alias: None, columns: Items { items: [] }, filter: None, links: Items { items: [] } }, Link { table: Text { inner: "v" }, from: Text { inner: "c" }, to: Text { inner: "d" }, join: Left, alias: Some(Text { inner: "l" }), columns: Items { items: [Text { inner: "e" }] }, filter: Some(Filter { any: true, conditions: Items { items: [] }, filters: Items { items: [] } }), links: Items { items: [Link { table: Text { inner: "w" }, from: Text { inner: "f" }, to: Text { inner: "g" }, join: Exists, alias: None, columns: Items { items: [] }, filter: None, links: Items { items: [] } }] } }] }, orders: Items { items: [] }, part: Page { size: 5000, from: Number(1), total: false } } } }"#,
     ),
 ];
 

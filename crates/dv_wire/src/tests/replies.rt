@@ -15,7 +15,7 @@ fn row(alloc: Global) -> Result<Values, Fail> {
     add_member(alloc, &mut members, "a.n", Json::from(-3i64))?;
     add_member(alloc, &mut members, "on", Json::Bool(true))?;
     add_member(alloc, &mut members, "due", Json::Null)?;
-    match Values::from_json(alloc, &members)? {
+    match Values::from_json(alloc, members)? {
         Some(values) => Ok(values),
         None => Err(Fail::new("no raw values")),
     }

@@ -1,4 +1,4 @@
-use Rattle.std.proofs.Common.{◌∙◌, ◌≤◌, refl, sym, ap, map, codes, unwrap_or, arith, [], ◌∷◌}
+use Rattle.std.proofs.Common.{◌∙◌, ◌≤◌, refl, sym, ap, map, codes, unwrap_or, arith, []}
 use Rattle.serde_json.specs.Data.{null, depth, members_depth}
 use Rattle.serde_json.specs.View.{view, members_view}
 use Rattle.dv_form.specs.Members.{flag_of}
