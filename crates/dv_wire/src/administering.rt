@@ -1,4 +1,5 @@
 #![tactic(auto, using(dv_form::proofs::Reading::taken), unfolding(crate::specs::Requests::request_for))]
+
 ghost use Rattle.std.specs.Prelude.{◌≡◌, [], IfOk};
 ghost use Rattle.serde_json.specs.View.{view};
 ghost use Rattle.dv_wire.specs.Requests as say;

@@ -54,11 +54,7 @@ pub(crate) fn take_list(members: &mut Map<String, Json>, name: &str) -> Option<V
 }
 
 // The items of a member, which is taken out of its object; none where it is missing.
-pub(crate) fn take_items(
-    alloc: Global,
-    members: &mut Map<String, Json>,
-    name: &str,
-) -> Vec<Json>
+pub(crate) fn take_items(alloc: Global, members: &mut Map<String, Json>, name: &str) -> Vec<Json>
     ensures value { map view result.items ≡ unwrap_or (say.list_in name.now (members_view members.old.entries)) [] }
     ensures rest { members_view members.new.entries ≡ without name.now (members_view members.old.entries) }
 {

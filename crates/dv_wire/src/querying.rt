@@ -99,10 +99,7 @@ fn order_of(alloc: Global, json: Json) -> Result<Order, AllocError>
 }
 
 // The filter of an object that may have one, which is taken out of it.
-fn filter_at(
-    alloc: Global,
-    members: &mut Map<String, Json>,
-) -> Result<Option<Filter>, AllocError>
+fn filter_at(alloc: Global, members: &mut Map<String, Json>) -> Result<Option<Filter>, AllocError>
     ensures value { IfOk result (λ filter. filter ≡ option_map say.filter_of (get_member (codes "filter") (members_view members.old.entries))) }
     ensures rest { members_view members.new.entries ≡ without (codes "filter") (members_view members.old.entries) }
 {
