@@ -4,9 +4,11 @@
     bench/wire.py      builds a small program over dv_wire in a copy of the repository (built.py)
 
 The peer is serde_json in the same run: the same line read as a JSON value, the same rows printed from one. A reading is
-wanted at half of the peer's speed at least, and twice the rows in about twice the time.
+wanted at half of the peer's speed at least, and twice the rows in about twice the time. Both readers take turns, and the
+median of the rounds is told with the lowest and the highest: the first round also pays for the memory that all use.
 """
 import json
+import statistics
 import subprocess
 
 from built import build
@@ -28,6 +30,8 @@ use std::io;
 use std::time::Instant;
 
 const TIMES: u32 = 20;
+
+const ROUNDS: u32 = 7;
 
 fn requests_read(alloc: Global, line: &str) -> u32 {
     let mut read = 0u32;
@@ -154,8 +158,10 @@ fn time_json(rt: &HostRuntime, rows: u32) -> io::Result<()> {
 
 fn main(rt: HostRuntime) -> io::Result<()> {
     let line = io::read_to_string(rt.alloc(), rt.stdin())?;
-    time_requests(&rt, line.as_str())?;
-    time_values(&rt, line.as_str())?;
+    for _ in 0..ROUNDS {
+        time_requests(&rt, line.as_str())?;
+        time_values(&rt, line.as_str())?;
+    }
     time_making(&rt, 5_000)?;
     time_page(&rt, 2_500)?;
     time_page(&rt, 5_000)?;
@@ -185,20 +191,24 @@ def lines():
 
 
 def timed(program, text):
-    """The microseconds of each part, by its word, and what it counted."""
+    """What each part counted and its microseconds, round by round, by its word."""
     run = subprocess.run([program], input=text.encode(), stdout=subprocess.PIPE, check=True)
-    words = [each.split() for each in run.stdout.decode().splitlines()]
-    return {name: (int(count), int(micros)) for name, count, micros in words}
+    parts = {}
+    for name, count, micros in (each.split() for each in run.stdout.decode().splitlines()):
+        parts.setdefault(name, []).append((int(count), int(micros)))
+    return parts
 
 
 program = build("bench_wire", USED, MAIN)
 for name, text in lines().items():
     parts = timed(program, text)
-    (read, ours), (same, peer) = parts["requests_read"], parts["values_read"]
-    assert read == same, f"{name} isn't read"
-    speed = len(text) * read / ours
-    print(f"{name}, {len(text):,} bytes: {speed:,.0f} MB/s, {peer / ours:.2f} times the speed of serde_json")
-(_, half), (size, whole), (_, double) = (parts[f"replies_printed_{rows}"] for rows in (2_500, 5_000, 10_000))
-(_, peer) = parts["values_printed_5000"]
+    rounds = list(zip(parts["requests_read"], parts["values_read"]))
+    assert all(read == same for (read, _), (same, _) in rounds), f"{name} isn't read"
+    speed = statistics.median(len(text) * read / ours for (read, ours), _ in rounds)
+    ratios = sorted(peer / ours for (_, ours), (_, peer) in rounds)
+    print(f"{name}, {len(text):,} bytes: {speed:,.0f} MB/s, {statistics.median(ratios):.2f} times the speed of serde_json "
+          f"({ratios[0]:.2f} to {ratios[-1]:.2f})")
+(_, half), (size, whole), (_, double) = (parts[f"replies_printed_{rows}"][0] for rows in (2_500, 5_000, 10_000))
+(_, peer) = parts["values_printed_5000"][0]
 print(f"a page of 5,000 rows: {size / whole:,.0f} MB/s, {peer / whole:.2f} times the speed of serde_json, "
       f"{whole / half:.2f} times the time of half the rows, {double / whole:.2f} times in twice the rows")

@@ -61,7 +61,7 @@ fn not_json(alloc: Global) -> DefFault
 {
     DefFault::Bad {
         kind: DefKind::NotJson,
-        place: Text::from_string(String::new(alloc)),
+        place: Text::new(alloc),
     }
 }
 

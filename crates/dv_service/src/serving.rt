@@ -218,7 +218,7 @@ pub fn serve_line(alloc: Global, org: &mut Org, line: Option<&[u8]>) -> Result<V
     ensures err { OnErr result (org.new ≡ org.old) }
 {
     let Some(json) = read_line(alloc, line)? else {
-        let place = Text::from_string(String::new(alloc));
+        let place = Text::new(alloc);
         return Ok(refuse(alloc, Refusal::Malformed { place })?);
     };
     let Some(request) = read_request(alloc, json)? else {

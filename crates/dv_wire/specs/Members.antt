@@ -25,10 +25,11 @@ version_if name d = option_and_then version_of (str_at name d)
 unfoldable pub token_if : List ℕ → Data → Option Token
 token_if name d = option_and_then token_of (str_at name d)
 
--- the items of the list under a name
+-- the items of the list under a name, of members
 abbrev pub list_in : List ℕ → Members → Option (List Data)
 list_in name ms = option_map data_list (option_and_then as_array (get_member name ms))
 
+-- the same of an object
 unfoldable pub list_if : List ℕ → Data → Option (List Data)
 list_if name d = option_map data_list (option_and_then as_array (get name d))
 

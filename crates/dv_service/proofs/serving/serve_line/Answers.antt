@@ -1,5 +1,4 @@
 use Rattle.std.proofs.Common.{sym, ◌∙◌, ap}
-use Rattle.std.specs.Str.{chars}
 use Rattle.std.specs.Option.{option_map}
 use Rattle.serde_json.specs.View.{view}
 use Rattle.dv_value.specs.declared.refusal.Refusal.TheVariants.{Malformed, NotBuilt}
@@ -8,10 +7,9 @@ use Rattle.dv_service.proofs.Steps.{answer-none, answer-unread, answer-read}
 use Rattle.dv_service.proofs.serving.serve_line.Goals as goal
 
 pub returns-in_default-clause-ok : goal.returns-in_default-clause-ok
-unfolding chars
 returns-in_default-clause-ok c = λ bytes e. (
-  Refused (Malformed c.from_string-place.result),
-  answer-none c.args.org.now bytes _ _ (c.from_string-place.ensures ∙ ap chars c.new.ensures.bytes) (c.in_ok-json.ensures bytes e) (ap (option_map view) c.in_default.is),
+  Refused (Malformed c.new-place.result),
+  answer-none c.args.org.now bytes _ _ c.new-place.ensures (c.in_ok-json.ensures bytes e) (ap (option_map view) c.in_default.is),
   c.in_ok-refuse.ensures,
 )
 
