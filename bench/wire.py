@@ -31,7 +31,7 @@ use std::time::Instant;
 
 const TIMES: u32 = 20;
 
-const ROUNDS: u32 = 7;
+const ROUNDS: u32 = 15;
 
 fn requests_read(alloc: Global, line: &str) -> u32 {
     let mut read = 0u32;
