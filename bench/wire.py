@@ -13,7 +13,7 @@ import subprocess
 
 from built import build
 
-USED = "dv_wire dv_request dv_meta dv_query dv_form dv_value serde_json sqlite_items"
+USED = "dv_wire dv_print dv_request dv_schema dv_query dv_form dv_value serde_json sqlite_items"
 CALLER, ROW = "00000000-0000-0000-0000-000000000065", "00000000-0000-0000-0000-000000000001"
 LIMIT = 1_048_576
 
@@ -22,7 +22,8 @@ MAIN = r"""//! Times the reader of requests and the printer of replies against s
 
 use dv_request::Reply;
 use dv_value::{Id, Values, add_member};
-use dv_wire::{print_reply, read_request};
+use dv_print::print_reply;
+use dv_wire::read_request;
 use serde_json::{Map, Value as Json};
 use sqlite_items::Items;
 use std::alloc::{AllocError, Global};

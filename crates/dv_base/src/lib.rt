@@ -21,6 +21,3 @@ pub use mem_source::MemSource;
 pub use sending::send;
 pub use std_sink::StdSink;
 pub use std_source::StdSource;
-
-#[cfg(test)]
-mod tests;

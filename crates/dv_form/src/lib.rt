@@ -13,8 +13,6 @@ mod parts;
 mod read;
 mod spelling;
 mod table;
-#[cfg(test)]
-mod tests;
 mod walk;
 mod word;
 

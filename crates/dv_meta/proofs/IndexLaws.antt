@@ -3,20 +3,20 @@ use Rattle.std.proofs.Common.{◌≡◌, ℕ, ◌+◌, ◌<◌, ◌≤◌, List,
 use Rattle.std.specs.Prelude.{◌&&◌}
 use Rattle.std.specs.Option.{option_or}
 use Rattle.std.proofs.lemmas.List.{map-append, take_more, take_all, length-map, length-take-le, length_push, flat_map_more}
-use Rattle.dv_meta.specs.declared.draft.DraftForm.{DraftForm}
-use Rattle.dv_meta.specs.declared.draft.DraftForm.TheVariants.{Plain, Lookup, Rollup}
-use Rattle.dv_meta.specs.declared.draft.DraftTable.{DraftTable}
+use Rattle.dv_schema.specs.declared.draft.DraftForm.{DraftForm}
+use Rattle.dv_schema.specs.declared.draft.DraftForm.TheVariants.{Plain, Lookup, Rollup}
+use Rattle.dv_schema.specs.declared.draft.DraftTable.{DraftTable}
 use Rattle.dv_meta.specs.declared.index.Columns.{Columns}
-use Rattle.dv_meta.specs.declared.draft.DraftRelationship.{DraftRelationship}
+use Rattle.dv_schema.specs.declared.draft.DraftRelationship.{DraftRelationship}
 use Rattle.dv_meta.specs.declared.names.Lookups.{Lookups}
 use Rattle.dv_meta.specs.declared.names.Numbers.{Numbers}
-use Rattle.dv_meta.specs.First.{first_from}
+use Rattle.dv_schema.specs.First.{first_from}
 use Rattle.dv_meta.specs.Columns.{names_by}
 use Rattle.dv_meta.specs.Index.{Finds, FindsColumns, FindsEach}
 use Rattle.dv_meta.specs.Named.{lookup_of, has_lookup}
-use Rattle.dv_meta.specs.Names.{Name, same_name, place_of}
+use Rattle.dv_schema.specs.Names.{Name, same_name, place_of}
 use Rattle.dv_meta.specs.Numbers.{number_in, lookup_in}
-use Rattle.dv_meta.proofs.FirstLaws.{first_from-push}
+use Rattle.dv_schema.proofs.FirstLaws.{first_from-push}
 
 -- what an added name leaves
 abbrev pub Adds : Numbers → Numbers → Name → ℕ → Type 0

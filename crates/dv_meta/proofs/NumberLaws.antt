@@ -1,13 +1,13 @@
 -- Numbers are small.
 use Rattle.std.proofs.Common.{◌≡◌, ℕ, ◌*◌, ◌<◌, ◌≤◌, List, [], ◌∷◌, ◌++◌, length, map, flat_map, Some, arith}
 use Rattle.std.proofs.lemmas.List.{length-map, length-append}
-use Rattle.dv_meta.specs.declared.draft.DraftColumn.{DraftColumn}
-use Rattle.dv_meta.specs.declared.draft.DraftTable.{DraftTable}
-use Rattle.dv_meta.specs.declared.draft.DraftRelationship.{DraftRelationship}
+use Rattle.dv_schema.specs.declared.draft.DraftColumn.{DraftColumn}
+use Rattle.dv_schema.specs.declared.draft.DraftTable.{DraftTable}
+use Rattle.dv_schema.specs.declared.draft.DraftRelationship.{DraftRelationship}
 use Rattle.dv_meta.specs.Columns.{column_names, names_of, system_names}
 use Rattle.dv_meta.specs.Named.{lookup_of, has_lookup}
-use Rattle.dv_meta.specs.Names.{Name, place_of, same_name}
-use Rattle.dv_meta.proofs.FirstLaws.{first_from-below}
+use Rattle.dv_schema.specs.Names.{Name, place_of, same_name}
+use Rattle.dv_schema.proofs.FirstLaws.{first_from-below}
 use Rattle.dv_meta.proofs.IndexLaws.{length-names_by}
 use Rattle.dv_meta.proofs.TakenLaws.{length-system_names}
 

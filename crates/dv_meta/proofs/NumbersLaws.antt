@@ -9,7 +9,7 @@ use Rattle.std.proofs.lemmas.Map.Text.{is_eq-slice_cmp}
 use Rattle.std.proofs.lemmas.Slice.Eq.{bytes_eq-Decides}
 use Rattle.dv_meta.specs.declared.names.Lookups.{Lookups}
 use Rattle.dv_meta.specs.declared.names.Numbers.{Numbers}
-use Rattle.dv_meta.specs.Names.{Name, same_name}
+use Rattle.dv_schema.specs.Names.{Name, same_name}
 use Rattle.dv_meta.specs.Numbers.{number_in, lookup_in}
 
 abbrev pub Map : Type 0

@@ -2,11 +2,11 @@
 use Rattle.std.proofs.Common.{◌≡◌, ℕ, ◌+◌, ◌<◌, ◌≤◌, Bool, true, false, [], length, take, flat_map, get_or, Option, Some, None, cond, refl, sym, ap, ◌∙◌, arith}
 use Rattle.std.proofs.lemmas.List.{length-append}
 use Rattle.std.specs.List.{list_any}
-use Rattle.dv_meta.specs.declared.draft.DraftColumn.{DraftColumn}
-use Rattle.dv_meta.specs.declared.draft.DraftTable.{DraftTable}
+use Rattle.dv_schema.specs.declared.draft.DraftColumn.{DraftColumn}
+use Rattle.dv_schema.specs.declared.draft.DraftTable.{DraftTable}
 use Rattle.dv_meta.specs.Columns.{column_names, column_number, names_of, system_columns, system_names}
-use Rattle.dv_meta.specs.First.{first_from}
-use Rattle.dv_meta.specs.Names.{stands_before}
+use Rattle.dv_schema.specs.First.{first_from}
+use Rattle.dv_schema.specs.Names.{stands_before}
 use Rattle.dv_meta.specs.NameTaken.{takes_name, taken_in}
 use Rattle.dv_meta.proofs.IndexLaws.{flat_map-take-more}
 

@@ -3,25 +3,25 @@ use Rattle.std.specs.Prelude.{◌≡◌, ℕ, Bool, false, List, [], ◌∷◌, 
 use Rattle.std.specs.Option.{option_map_or}
 use Rattle.dv_value.specs.declared.kind.Kind.{Kind}
 use Rattle.dv_value.specs.declared.kind.Kind.TheVariants.{Whole, Amount, Moment, Ref}
-use Rattle.dv_meta.specs.declared.definition.Definition.{Definition}
-use Rattle.dv_meta.specs.declared.draft.Draft.{Draft}
-use Rattle.dv_meta.specs.declared.draft.DraftColumn.{DraftColumn}
-use Rattle.dv_meta.specs.declared.draft.DraftForm.{DraftForm}
-use Rattle.dv_meta.specs.declared.draft.DraftForm.TheVariants as form
-use Rattle.dv_meta.specs.declared.draft.DraftRegistration.{DraftRegistration}
-use Rattle.dv_meta.specs.declared.draft.DraftRelationship.{DraftRelationship}
-use Rattle.dv_meta.specs.declared.draft.DraftRollup.{DraftRollup}
-use Rattle.dv_meta.specs.declared.draft.DraftTable.{DraftTable}
-use Rattle.dv_meta.specs.declared.registration.Registration.{Registration}
-use Rattle.dv_meta.specs.declared.relationship.Relationship.{Relationship}
-use Rattle.dv_meta.specs.declared.table.Column.{Column}
-use Rattle.dv_meta.specs.declared.table.ColumnRole.TheVariants as role
-use Rattle.dv_meta.specs.declared.table.Rollup.{Rollup}
-use Rattle.dv_meta.specs.declared.table.Table.{Table}
+use Rattle.dv_schema.specs.declared.definition.Definition.{Definition}
+use Rattle.dv_schema.specs.declared.draft.Draft.{Draft}
+use Rattle.dv_schema.specs.declared.draft.DraftColumn.{DraftColumn}
+use Rattle.dv_schema.specs.declared.draft.DraftForm.{DraftForm}
+use Rattle.dv_schema.specs.declared.draft.DraftForm.TheVariants as form
+use Rattle.dv_schema.specs.declared.draft.DraftRegistration.{DraftRegistration}
+use Rattle.dv_schema.specs.declared.draft.DraftRelationship.{DraftRelationship}
+use Rattle.dv_schema.specs.declared.draft.DraftRollup.{DraftRollup}
+use Rattle.dv_schema.specs.declared.draft.DraftTable.{DraftTable}
+use Rattle.dv_schema.specs.declared.registration.Registration.{Registration}
+use Rattle.dv_schema.specs.declared.relationship.Relationship.{Relationship}
+use Rattle.dv_schema.specs.declared.table.Column.{Column}
+use Rattle.dv_schema.specs.declared.table.ColumnRole.TheVariants as role
+use Rattle.dv_schema.specs.declared.table.Rollup.{Rollup}
+use Rattle.dv_schema.specs.declared.table.Table.{Table}
 use Rattle.dv_meta.specs.Columns.{system_columns, column_names, state_name, date_name}
-use Rattle.dv_meta.specs.Definitions.{tables_of, relationships_of, steps_of, opening_of}
+use Rattle.dv_schema.specs.Definitions.{tables_of, relationships_of, steps_of, opening_of}
 use Rattle.dv_meta.specs.Named.{table_names, relationship_names, table_named, own_column, lookup_number}
-use Rattle.dv_meta.specs.Names.{Name, place_of}
+use Rattle.dv_schema.specs.Names.{Name, place_of}
 use Rattle.dv_meta.specs.UnknownName.{source_of}
 
 -- the number that was found; where none was, there is a fault and the number doesn't matter

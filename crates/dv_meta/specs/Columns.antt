@@ -3,13 +3,13 @@
 use Rattle.std.specs.Prelude.{ℕ, ◌+◌, Bool, true, false, List, [], ◌∷◌, ◌++◌, map, flat_map, take, length, codes, pos}
 use Rattle.dv_value.specs.declared.kind.Kind.{Kind}
 use Rattle.dv_value.specs.declared.kind.Kind.TheVariants.{Ref, Moment, Choice, Amount}
-use Rattle.dv_meta.specs.declared.draft.DraftColumn.{DraftColumn}
-use Rattle.dv_meta.specs.declared.draft.DraftForm.{DraftForm}
-use Rattle.dv_meta.specs.declared.draft.DraftForm.TheVariants.{Plain, Lookup, Rollup}
-use Rattle.dv_meta.specs.declared.draft.DraftTable.{DraftTable}
-use Rattle.dv_meta.specs.declared.table.Column.{Column}
-use Rattle.dv_meta.specs.declared.table.ColumnRole.TheVariants.{System}
-use Rattle.dv_meta.specs.Names.{Name}
+use Rattle.dv_schema.specs.declared.draft.DraftColumn.{DraftColumn}
+use Rattle.dv_schema.specs.declared.draft.DraftForm.{DraftForm}
+use Rattle.dv_schema.specs.declared.draft.DraftForm.TheVariants.{Plain, Lookup, Rollup}
+use Rattle.dv_schema.specs.declared.draft.DraftTable.{DraftTable}
+use Rattle.dv_schema.specs.declared.table.Column.{Column}
+use Rattle.dv_schema.specs.declared.table.ColumnRole.TheVariants.{System}
+use Rattle.dv_schema.specs.Names.{Name}
 
 -- a column that the service keeps itself
 abbrev pub system_column : Name → Kind → Column

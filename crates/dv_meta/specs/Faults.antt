@@ -1,37 +1,21 @@
--- The passes over a well-formed text, each over the whole of it; the first pass that finds a fault tells it. The place
--- of a fault is a path: member names joined by dots, and the places of items, counted from 0, in brackets.
-use Rattle.std.specs.Prelude.{ℕ, List, ◌++◌, codes, chars, ◌≡◌, Option, Some, option_map}
+-- The passes over a well-formed text, each over the whole of it; the first pass that finds a fault tells it.
+use Rattle.std.specs.Prelude.{ℕ, chars, ◌≡◌, Option, Some, option_map}
 use Rattle.std.specs.Option.{option_or}
-use Rattle.std.specs.Fmt.{decimal}
-use Rattle.dv_meta.specs.declared.draft.Draft.{Draft}
-use Rattle.dv_meta.specs.declared.fault.DefFault.{DefFault}
-use Rattle.dv_meta.specs.declared.fault.DefFault.TheVariants.{Bad, OutOfMemory}
-use Rattle.dv_meta.specs.declared.fault.DefKind.{DefKind}
-use Rattle.dv_meta.specs.declared.fault.DefKind.TheVariants.{NameTaken, UnknownName, BadCascade, OwnershipClash, SecondParent, BadRollup, UnknownStep, BadDirectory}
-use Rattle.dv_meta.specs.declared.place.Place.{Place}
-use Rattle.dv_meta.specs.declared.place.Place.TheVariants.{Table, Column, Relationship, Registration, BusinessUnit, Role, User, Team}
+use Rattle.dv_schema.specs.declared.draft.Draft.{Draft}
+use Rattle.dv_schema.specs.declared.fault.DefFault.{DefFault}
+use Rattle.dv_schema.specs.declared.fault.DefFault.TheVariants.{Bad, OutOfMemory}
+use Rattle.dv_schema.specs.declared.fault.DefKind.{DefKind}
+use Rattle.dv_schema.specs.declared.fault.DefKind.TheVariants.{NameTaken, UnknownName, BadCascade, OwnershipClash, SecondParent, BadRollup, UnknownStep, BadDirectory}
+use Rattle.dv_schema.specs.declared.place.Place.{Place}
+use Rattle.dv_schema.specs.Places.{path_of}
+use Rattle.dv_opening.specs.Opening.{bad_directory}
 use Rattle.dv_meta.specs.declared.resolving.Fault.{Fault}
 use Rattle.dv_meta.specs.NameTaken.{name_taken}
-use Rattle.dv_meta.specs.Opening.{bad_directory}
+use Rattle.dv_meta.specs.Named.{owned}
 use Rattle.dv_meta.specs.Relations.{bad_cascade, ownership_clash, second_parent}
 use Rattle.dv_meta.specs.Rollups.{bad_rollup}
 use Rattle.dv_meta.specs.Steps.{unknown_step}
 use Rattle.dv_meta.specs.UnknownName.{unknown_name}
-
--- an item of a list
-abbrev pub item_path : List ℕ → ℕ → List ℕ
-item_path name i = name ++ (codes "[" ++ (decimal i ++ codes "]"))
-
--- the place as text
-unfoldable pub path_of : Place → List ℕ
-path_of (Table i) = item_path (codes "tables") i
-path_of (Column i j) = item_path (codes "tables") i ++ item_path (codes ".columns") j
-path_of (Relationship k) = item_path (codes "relationships") k
-path_of (Registration k) = item_path (codes "steps") k
-path_of (BusinessUnit k) = item_path (codes "units") k
-path_of (Role k) = item_path (codes "roles") k
-path_of (User k) = item_path (codes "users") k
-path_of (Team k) = item_path (codes "teams") k
 
 -- a fault of a kind, if there is a place that has it
 abbrev pub of_kind : DefKind → Option Place → Option Fault
@@ -47,7 +31,7 @@ first_fault draft steps =
     (option_or (of_kind SecondParent (second_parent draft))
     (option_or (of_kind BadRollup (bad_rollup draft))
     (option_or (of_kind UnknownStep (unknown_step steps draft))
-    (of_kind BadDirectory (bad_directory draft))))))))
+    (of_kind BadDirectory (bad_directory (owned draft) draft.opening))))))))
 
 -- what is told of a fault: its kind, and its place as text
 abbrev pub refusal_of : Fault → DefFault

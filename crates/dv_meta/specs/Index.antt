@@ -1,13 +1,13 @@
 -- What an index of a definition tells: for each name, its first place.
 use Rattle.std.specs.Prelude.{◌≡◌, ◌≤◌, List, [], ◌∷◌, length}
-use Rattle.dv_meta.specs.declared.draft.Draft.{Draft}
-use Rattle.dv_meta.specs.declared.draft.DraftTable.{DraftTable}
+use Rattle.dv_schema.specs.declared.draft.Draft.{Draft}
+use Rattle.dv_schema.specs.declared.draft.DraftTable.{DraftTable}
 use Rattle.dv_meta.specs.declared.index.Columns.{Columns}
 use Rattle.dv_meta.specs.declared.index.Index.{Index}
 use Rattle.dv_meta.specs.declared.names.Numbers.{Numbers}
 use Rattle.dv_meta.specs.Columns.{column_names, own_names}
 use Rattle.dv_meta.specs.Named.{table_names, relationship_names, lookup_number}
-use Rattle.dv_meta.specs.Names.{Name, place_of}
+use Rattle.dv_schema.specs.Names.{Name, place_of}
 use Rattle.dv_meta.specs.Numbers.{number_in, lookup_in}
 
 -- the numbers of names are their first places in a list

@@ -3,16 +3,16 @@
 use Rattle.std.specs.Prelude.{ℕ, Bool, false, ◌||◌, Option, Some, None, if◌then◌else◌, nat_lt, option_map, position}
 use Rattle.std.specs.List.{list_any, enumerate_from}
 use Rattle.std.specs.Option.{option_or, option_map_or}
-use Rattle.dv_meta.specs.declared.draft.Draft.{Draft}
-use Rattle.dv_meta.specs.declared.draft.DraftColumn.{DraftColumn}
-use Rattle.dv_meta.specs.declared.draft.DraftRelationship.{DraftRelationship}
-use Rattle.dv_meta.specs.declared.draft.DraftTable.{DraftTable}
-use Rattle.dv_meta.specs.declared.place.Place.{Place}
-use Rattle.dv_meta.specs.declared.place.Place.TheVariants.{Table, Column, Relationship}
+use Rattle.dv_schema.specs.declared.draft.Draft.{Draft}
+use Rattle.dv_schema.specs.declared.draft.DraftColumn.{DraftColumn}
+use Rattle.dv_schema.specs.declared.draft.DraftRelationship.{DraftRelationship}
+use Rattle.dv_schema.specs.declared.draft.DraftTable.{DraftTable}
+use Rattle.dv_schema.specs.declared.place.Place.{Place}
+use Rattle.dv_schema.specs.declared.place.Place.TheVariants.{Table, Column, Relationship}
 use Rattle.dv_meta.specs.Columns.{column_names, column_number, names_of}
-use Rattle.dv_meta.specs.First.{first}
+use Rattle.dv_schema.specs.First.{first}
 use Rattle.dv_meta.specs.Named.{table_names, relationship_names, lookup_number}
-use Rattle.dv_meta.specs.Names.{stands_before}
+use Rattle.dv_schema.specs.Names.{stands_before}
 
 -- whether one of the column's names is that of an earlier column
 unfoldable pub takes_name : DraftTable → ℕ → DraftColumn → Bool

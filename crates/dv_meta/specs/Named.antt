@@ -1,12 +1,12 @@
 -- What a name of a definition names.
-use Rattle.std.specs.Prelude.{ℕ, Bool, ◌&&◌, List, map, slice_get, Option, Some, None, if◌then◌else◌, option_and_then}
-use Rattle.dv_meta.specs.declared.draft.Draft.{Draft}
-use Rattle.dv_meta.specs.declared.draft.DraftTable.{DraftTable}
-use Rattle.dv_meta.specs.declared.draft.DraftColumn.{DraftColumn}
-use Rattle.dv_meta.specs.declared.draft.DraftRelationship.{DraftRelationship}
+use Rattle.std.specs.Prelude.{ℕ, Bool, ◌&&◌, List, map, slice_get, Option, Some, None, if◌then◌else◌, option_map, option_and_then}
+use Rattle.dv_schema.specs.declared.draft.Draft.{Draft}
+use Rattle.dv_schema.specs.declared.draft.DraftTable.{DraftTable}
+use Rattle.dv_schema.specs.declared.draft.DraftColumn.{DraftColumn}
+use Rattle.dv_schema.specs.declared.draft.DraftRelationship.{DraftRelationship}
 use Rattle.dv_meta.specs.Columns.{own_names}
-use Rattle.dv_meta.specs.First.{first}
-use Rattle.dv_meta.specs.Names.{Name, same_name, place_of}
+use Rattle.dv_schema.specs.First.{first}
+use Rattle.dv_schema.specs.Names.{Name, same_name, place_of}
 
 abbrev pub table_names : List DraftTable → List Name
 table_names tables = map (λ table. table.name) tables
@@ -40,3 +40,7 @@ lookup_of relationships child column = first (λ k r. if has_lookup child column
 
 abbrev pub lookup_number : Draft → Name → Name → Option ℕ
 lookup_number draft = lookup_of draft.relationships
+
+-- whether users own the rows of a table of a name, where it is there
+abbrev pub owned : Draft → Name → Option Bool
+owned draft name = option_map (λ table. table.user_owned) (table_named draft name)

@@ -5,7 +5,7 @@ use Rattle.std.specs.Cmp.Lexicographic.{slice_cmp}
 use Rattle.std.specs.Ordering.{on, nat_cmp}
 use Rattle.dv_meta.specs.declared.names.Numbers.{Numbers}
 use Rattle.dv_meta.specs.declared.names.Lookups.{Lookups}
-use Rattle.dv_meta.specs.Names.{Name}
+use Rattle.dv_schema.specs.Names.{Name}
 
 -- the number that a name has
 unfoldable pub number_in : Numbers → Name → Option ℕ

@@ -3,9 +3,9 @@ use Rattle.std.specs.Prelude.{◌≡◌, ℕ, List, Option, None, option_map}
 use Rattle.std.specs.Option.{option_or}
 use Rattle.dv_meta.specs.Accepted.{IsDefinitionOf}
 use Rattle.dv_meta.specs.Faults.{first_fault, refusal_of}
-use Rattle.dv_meta.specs.Form.{form_fault, draft_in}
-use Rattle.dv_meta.specs.declared.definition.Definition.{Definition}
-use Rattle.dv_meta.specs.declared.fault.DefFault.{DefFault}
+use Rattle.dv_schema.specs.Form.{form_fault, draft_in}
+use Rattle.dv_schema.specs.declared.definition.Definition.{Definition}
+use Rattle.dv_schema.specs.declared.fault.DefFault.{DefFault}
 
 -- the first fault of a text: that of its form, or else that of the passes over what it says
 abbrev pub first_fault_of : List ℕ → ℕ → Option DefFault

@@ -3,15 +3,15 @@
 use Rattle.std.specs.Prelude.{ℕ, Bool, true, false, not, ◌&&◌, ◌||◌, List, Option, Some, None, if◌then◌else◌, option_map, position, nat_lt}
 use Rattle.std.specs.List.{enumerate_from}
 use Rattle.std.specs.Option.{option_map_or}
-use Rattle.dv_meta.specs.declared.draft.Draft.{Draft}
-use Rattle.dv_meta.specs.declared.draft.DraftRelationship.{DraftRelationship}
-use Rattle.dv_meta.specs.declared.place.Place.{Place}
-use Rattle.dv_meta.specs.declared.place.Place.TheVariants as at
-use Rattle.dv_meta.specs.declared.relationship.Cascade.{Cascade}
-use Rattle.dv_meta.specs.declared.relationship.Cascade.TheVariants.{NoCascade, RemoveLink}
-use Rattle.dv_meta.specs.First.{first}
+use Rattle.dv_schema.specs.declared.draft.Draft.{Draft}
+use Rattle.dv_schema.specs.declared.draft.DraftRelationship.{DraftRelationship}
+use Rattle.dv_schema.specs.declared.place.Place.{Place}
+use Rattle.dv_schema.specs.declared.place.Place.TheVariants as at
+use Rattle.dv_schema.specs.declared.relationship.Cascade.{Cascade}
+use Rattle.dv_schema.specs.declared.relationship.Cascade.TheVariants.{NoCascade, RemoveLink}
+use Rattle.dv_schema.specs.First.{first}
 use Rattle.dv_meta.specs.Named.{table_named, column_named}
-use Rattle.dv_meta.specs.Names.{Name, same_name}
+use Rattle.dv_schema.specs.Names.{Name, same_name}
 
 -- whether a delete of the parent empties the lookup
 abbrev pub empties : Cascade → Bool

@@ -4,19 +4,19 @@ use Rattle.std.specs.Prelude.{ℕ, Bool, true, false, not, ◌&&◌, ◌||◌, O
 use Rattle.std.specs.Option.{option_map_or}
 use Rattle.dv_value.specs.declared.kind.Kind.{Kind}
 use Rattle.dv_value.specs.declared.kind.Kind.TheVariants.{Whole, Amount}
-use Rattle.dv_meta.specs.declared.draft.Draft.{Draft}
-use Rattle.dv_meta.specs.declared.draft.DraftColumn.{DraftColumn}
-use Rattle.dv_meta.specs.declared.draft.DraftForm.{DraftForm}
-use Rattle.dv_meta.specs.declared.draft.DraftForm.TheVariants.{Plain, Lookup, Rollup}
-use Rattle.dv_meta.specs.declared.draft.DraftRollup.{DraftRollup}
-use Rattle.dv_meta.specs.declared.draft.DraftTable.{DraftTable}
-use Rattle.dv_meta.specs.declared.place.Place.{Place}
-use Rattle.dv_meta.specs.declared.place.Place.TheVariants as at
-use Rattle.dv_meta.specs.declared.table.RollupKind.{RollupKind}
-use Rattle.dv_meta.specs.declared.table.RollupKind.TheVariants.{Sum, Count, Min, Max}
-use Rattle.dv_meta.specs.First.{first}
+use Rattle.dv_schema.specs.declared.draft.Draft.{Draft}
+use Rattle.dv_schema.specs.declared.draft.DraftColumn.{DraftColumn}
+use Rattle.dv_schema.specs.declared.draft.DraftForm.{DraftForm}
+use Rattle.dv_schema.specs.declared.draft.DraftForm.TheVariants.{Plain, Lookup, Rollup}
+use Rattle.dv_schema.specs.declared.draft.DraftRollup.{DraftRollup}
+use Rattle.dv_schema.specs.declared.draft.DraftTable.{DraftTable}
+use Rattle.dv_schema.specs.declared.place.Place.{Place}
+use Rattle.dv_schema.specs.declared.place.Place.TheVariants as at
+use Rattle.dv_schema.specs.declared.table.RollupKind.{RollupKind}
+use Rattle.dv_schema.specs.declared.table.RollupKind.TheVariants.{Sum, Count, Min, Max}
+use Rattle.dv_schema.specs.First.{first}
 use Rattle.dv_meta.specs.Named.{relationship_named, own_column}
-use Rattle.dv_meta.specs.Names.{Name, same_name}
+use Rattle.dv_schema.specs.Names.{Name, same_name}
 use Rattle.dv_meta.specs.UnknownName.{source_of}
 
 -- whether values of the kind can be added and compared

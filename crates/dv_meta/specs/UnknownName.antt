@@ -3,21 +3,21 @@
 use Rattle.std.specs.Prelude.{ℕ, Bool, true, false, not, ◌||◌, List, Option, Some, None, is_none, option_map, option_and_then, position}
 use Rattle.std.specs.List.{list_any}
 use Rattle.std.specs.Option.{option_or, option_map_or}
-use Rattle.dv_meta.specs.declared.draft.Draft.{Draft}
-use Rattle.dv_meta.specs.declared.draft.DraftColumn.{DraftColumn}
-use Rattle.dv_meta.specs.declared.draft.DraftForm.{DraftForm}
-use Rattle.dv_meta.specs.declared.draft.DraftForm.TheVariants.{Plain, Lookup, Rollup}
-use Rattle.dv_meta.specs.declared.draft.DraftRelationship.{DraftRelationship}
-use Rattle.dv_meta.specs.declared.draft.DraftRegistration.{DraftRegistration}
-use Rattle.dv_meta.specs.declared.draft.DraftRollup.{DraftRollup}
-use Rattle.dv_meta.specs.declared.draft.DraftTable.{DraftTable}
-use Rattle.dv_meta.specs.declared.opening.Role.{Role}
-use Rattle.dv_meta.specs.declared.place.Place.{Place}
-use Rattle.dv_meta.specs.declared.place.Place.TheVariants as at
+use Rattle.dv_schema.specs.declared.draft.Draft.{Draft}
+use Rattle.dv_schema.specs.declared.draft.DraftColumn.{DraftColumn}
+use Rattle.dv_schema.specs.declared.draft.DraftForm.{DraftForm}
+use Rattle.dv_schema.specs.declared.draft.DraftForm.TheVariants.{Plain, Lookup, Rollup}
+use Rattle.dv_schema.specs.declared.draft.DraftRelationship.{DraftRelationship}
+use Rattle.dv_schema.specs.declared.draft.DraftRegistration.{DraftRegistration}
+use Rattle.dv_schema.specs.declared.draft.DraftRollup.{DraftRollup}
+use Rattle.dv_schema.specs.declared.draft.DraftTable.{DraftTable}
+use Rattle.dv_schema.specs.declared.opening.Role.{Role}
+use Rattle.dv_schema.specs.declared.place.Place.{Place}
+use Rattle.dv_schema.specs.declared.place.Place.TheVariants as at
 use Rattle.dv_meta.specs.Columns.{column_names}
-use Rattle.dv_meta.specs.First.{first}
+use Rattle.dv_schema.specs.First.{first}
 use Rattle.dv_meta.specs.Named.{table_named, relationship_named, column_named, lookup_number}
-use Rattle.dv_meta.specs.Names.{Name, is_among}
+use Rattle.dv_schema.specs.Names.{Name, is_among}
 
 -- whether a name is given that is none of the table's columns
 abbrev pub of_unknown : Option Name → DraftTable → Bool

@@ -1,21 +1,19 @@
 ghost use Rattle.std.specs.Prelude.{◌≡◌, ◌++◌, chars, map, flat_map, IfOk, OnOk};
 ghost use Rattle.dv_meta.specs.Accepted.{any_whole, unlimited, rollup_kind, rollup_of, columns_of, rollup_column, companion, table_of, relationship_of, registration_of};
 ghost use Rattle.dv_meta.specs.Index.{IsIndexOf};
-ghost use Rattle.dv_meta.specs.Limits.{IsWithinLimits};
+ghost use Rattle.dv_schema.specs.Limits.{IsWithinLimits};
 
-use crate::draft::{
-    Draft, DraftColumn, DraftForm, DraftRegistration, DraftRelationship, DraftRollup, DraftTable,
-};
 use crate::index::Index;
 use crate::numbers::{
     lookup_number, number_in_table, relationship_number, source_number, table_number,
 };
-use crate::registration::Registration;
-use crate::relationship::Relationship;
 use crate::spelling::with_ending;
 use crate::system::system_columns;
-use crate::table::{Column, ColumnRole, Rollup, Table};
 use crate::unknown::source_of;
+use dv_schema::{
+    Column, ColumnRole, Draft, DraftColumn, DraftForm, DraftRegistration, DraftRelationship,
+    DraftRollup, DraftTable, Registration, Relationship, Rollup, Table,
+};
 use dv_value::{Kind, Names, Text};
 use sqlite_items::Items;
 use std::alloc::{AllocError, Global};

@@ -1,17 +1,16 @@
 ghost use Rattle.std.specs.Prelude.{◌≡◌, ◌++◌, ◌+◌, ◌<◌, ◌≤◌, ℕ, List, length, map, flat_map, slice_get, Some, IfOk, OnOk};
-ghost use Rattle.dv_meta.specs.declared.draft.DraftTable.{DraftTable};
+ghost use Rattle.dv_schema.specs.declared.draft.DraftTable.{DraftTable};
 ghost use Rattle.dv_meta.specs.Columns.{names_of, column_names};
 ghost use Rattle.dv_meta.specs.Index.{Finds, FindsColumns, FindsEach, IsIndexOf};
-ghost use Rattle.dv_meta.specs.Limits.{IsWithinLimits};
+ghost use Rattle.dv_schema.specs.Limits.{IsWithinLimits};
 ghost use Rattle.dv_meta.specs.Named.{table_names, relationship_names, lookup_of};
-ghost use Rattle.dv_meta.specs.Names.{Name};
+ghost use Rattle.dv_schema.specs.Names.{Name};
 ghost use Rattle.dv_meta.specs.Numbers.{lookup_in};
 
-use crate::draft::{Draft, DraftColumn, DraftForm, DraftRelationship, DraftTable};
 use crate::names::{Lookups, Numbers};
 use crate::spelling::with_ending;
 use crate::system::system_columns;
-use crate::table::Column;
+use dv_schema::{Column, Draft, DraftColumn, DraftForm, DraftRelationship, DraftTable};
 use dv_value::Text;
 use std::alloc::{AllocError, Global};
 

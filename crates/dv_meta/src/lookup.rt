@@ -2,8 +2,8 @@ ghost use Rattle.std.specs.Prelude.{◌≡◌, ◌<◌, Some, length, slice_get,
 ghost use Rattle.dv_meta.specs.Index.{FindsColumns, IsIndexOf};
 ghost use Rattle.dv_meta.specs.Named.{table_named, relationship_named, own_column, column_named};
 
-use crate::draft::{Draft, DraftColumn, DraftRelationship, DraftTable};
 use crate::index::{Columns, Index};
+use dv_schema::{Draft, DraftColumn, DraftRelationship, DraftTable};
 use dv_value::Text;
 use sqlite_items::at;
 

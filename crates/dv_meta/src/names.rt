@@ -1,6 +1,6 @@
 ghost use Rattle.std.specs.Prelude.{◌≡◌, ℕ, List, ◌&&◌, false, Some, None, if◌then◌else◌, IfOk, OnOk};
 ghost use Rattle.std.specs.Option.{option_or};
-ghost use Rattle.dv_meta.specs.Names.{same_name};
+ghost use Rattle.dv_schema.specs.Names.{same_name};
 ghost use Rattle.dv_meta.specs.Numbers.{number_in, lookup_in};
 
 use dv_value::Text;

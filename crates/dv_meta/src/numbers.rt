@@ -2,14 +2,14 @@ ghost use Rattle.std.specs.Prelude.{◌≡◌};
 ghost use Rattle.dv_meta.specs.Accepted.{table_number, number_of, number_in_table, source_number};
 ghost use Rattle.dv_meta.specs.Columns.{column_names};
 ghost use Rattle.dv_meta.specs.Index.{FindsColumns, IsIndexOf};
-ghost use Rattle.dv_meta.specs.Limits.{IsWithinLimits};
+ghost use Rattle.dv_schema.specs.Limits.{IsWithinLimits};
 ghost use Rattle.dv_meta.specs.Named.{relationship_names, lookup_number};
-ghost use Rattle.dv_meta.specs.Names.{place_of};
+ghost use Rattle.dv_schema.specs.Names.{place_of};
 
-use crate::draft::{Draft, DraftRollup};
 use crate::index::Index;
 use crate::lookup::{Found, table_named};
 use crate::unknown::source_of;
+use dv_schema::{Draft, DraftRollup};
 use dv_value::Text;
 
 /// The number of a table.

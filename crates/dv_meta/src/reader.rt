@@ -1,10 +1,8 @@
 ghost use Rattle.std.specs.Prelude.{◌≡◌, Some, IfOk, IfErr};
 ghost use Rattle.dv_meta.specs.Reader.{IsAccepted, first_fault_of};
 
-use crate::definition::Definition;
-use crate::fault::DefFault;
-use crate::form::read_form;
 use crate::resolving::resolve;
+use dv_schema::{DefFault, Definition, read_form};
 use std::alloc::Global;
 
 /// Reads a table definition: one JSON object of at most 1,048,576 bytes.

@@ -1,18 +1,16 @@
 ghost use Rattle.std.specs.Prelude.{◌≡◌, ◌&&◌, ℕ, Some, None, if◌then◌else◌, position, IfOk, OnOk};
 ghost use Rattle.std.specs.List.{enumerate_from};
 ghost use Rattle.std.specs.Option.{option_or};
-ghost use Rattle.dv_meta.specs.declared.draft.Draft.{Draft};
+ghost use Rattle.dv_schema.specs.declared.draft.Draft.{Draft};
 ghost use Rattle.dv_meta.specs.Index.{IsIndexOf};
-ghost use Rattle.dv_meta.specs.Names.{Name, same_name};
+ghost use Rattle.dv_schema.specs.Names.{Name, same_name};
 ghost use Rattle.dv_meta.specs.Numbers.{number_in};
 ghost use Rattle.dv_meta.specs.Relations.{empties, hands_on, empties_required, is_parental, parental_of, has_no_owners, clashes, is_second, bad_cascade, ownership_clash, second_parent};
 
-use crate::draft::{Draft, DraftRelationship};
 use crate::index::Index;
 use crate::lookup::{column_named, table_named};
 use crate::names::Numbers;
-use crate::place::Place;
-use crate::relationship::Cascade;
+use dv_schema::{Cascade, Draft, DraftRelationship, Place};
 use dv_value::Text;
 use std::alloc::{AllocError, Global};
 

@@ -2,20 +2,17 @@ ghost use Rattle.std.specs.Prelude.{◌≡◌, None, IfOk, IfErr, OnOk};
 ghost use Rattle.dv_meta.specs.Accepted.{IsDefinitionOf};
 ghost use Rattle.dv_meta.specs.Faults.{first_fault, IsTold};
 ghost use Rattle.dv_meta.specs.Index.{IsIndexOf};
-ghost use Rattle.dv_meta.specs.Limits.{IsWithinLimits};
+ghost use Rattle.dv_schema.specs.Limits.{IsWithinLimits};
 
 use crate::building::{registrations_of, relationships_of, tables_of};
-use crate::definition::Definition;
 use crate::directory::bad_directory;
-use crate::draft::Draft;
-use crate::fault::{DefFault, DefKind};
 use crate::index::Index;
-use crate::place::Place;
 use crate::relations::{bad_cascade, ownership_clash, second_parent};
 use crate::rollups::bad_rollup;
 use crate::steps::unknown_step;
 use crate::taken::name_taken;
 use crate::unknown::unknown_name;
+use dv_schema::{DefFault, DefKind, Definition, Draft, Place};
 use std::alloc::{AllocError, Global};
 
 /// A fault of a definition: its kind and the item that has it.
@@ -80,12 +77,7 @@ fn build(alloc: Global, draft: Draft, index: &Index) -> Result<Definition, Alloc
     let tables = tables_of(alloc, &draft, index)?;
     let relationships = relationships_of(alloc, &draft, index)?;
     let steps = registrations_of(alloc, &draft, index)?;
-    Ok(Definition {
-        tables,
-        relationships,
-        steps,
-        opening: draft.opening,
-    })
+    Ok(Definition::new(tables, relationships, steps, draft.opening))
 }
 
 /// The accepted definition of a well-formed text, or its first fault by the passes after the walk.

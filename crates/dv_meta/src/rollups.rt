@@ -1,14 +1,12 @@
 ghost use Rattle.std.specs.Prelude.{◌≡◌, position};
-ghost use Rattle.dv_meta.specs.First.{first};
+ghost use Rattle.dv_schema.specs.First.{first};
 ghost use Rattle.dv_meta.specs.Index.{FindsColumns, IsIndexOf};
 ghost use Rattle.dv_meta.specs.Rollups.{is_countable, is_source, names_source, of_suits, goes_over, source_suits, rollup_bad, bad_in, bad_rollup};
 
-use crate::draft::{Draft, DraftColumn, DraftForm, DraftRollup, DraftTable};
 use crate::index::Index;
 use crate::lookup::{Found, relationship_named};
-use crate::place::Place;
-use crate::table::RollupKind;
 use crate::unknown::source_of;
+use dv_schema::{Draft, DraftColumn, DraftForm, DraftRollup, DraftTable, Place, RollupKind};
 use dv_value::{Kind, Text};
 
 fn is_countable(kind: &Kind) -> bool

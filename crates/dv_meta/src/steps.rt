@@ -1,8 +1,7 @@
 ghost use Rattle.std.specs.Prelude.{◌≡◌, position};
 ghost use Rattle.dv_meta.specs.Steps.{step_unknown, unknown_step};
 
-use crate::draft::Draft;
-use crate::place::Place;
+use dv_schema::{Draft, Place};
 
 /// The first registration of a step that isn't there.
 #[tactic(auto, unfolding(crate::specs::Steps::unknown_step))]

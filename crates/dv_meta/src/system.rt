@@ -1,7 +1,7 @@
 ghost use Rattle.std.specs.Prelude.{◌≡◌, ◌++◌, ◌∷◌, [], IfOk, OnOk, chars};
 ghost use Rattle.dv_meta.specs.Columns.{system_column, system_columns, owner_columns};
 
-use crate::table::{Column, ColumnRole};
+use dv_schema::{Column, ColumnRole};
 use dv_value::{Kind, Text};
 use sqlite_items::Items;
 use std::alloc::{AllocError, Global};

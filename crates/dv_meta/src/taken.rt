@@ -1,19 +1,18 @@
 ghost use Rattle.std.specs.Prelude.{◌≡◌, ◌≤◌, [], ◌∷◌, List, Some, length, slice_get, position, IfOk};
 ghost use Rattle.std.specs.List.{list_any, enumerate_from};
-ghost use Rattle.dv_meta.specs.declared.draft.Draft.{Draft};
-ghost use Rattle.dv_meta.specs.declared.draft.DraftTable.{DraftTable};
+ghost use Rattle.dv_schema.specs.declared.draft.Draft.{Draft};
+ghost use Rattle.dv_schema.specs.declared.draft.DraftTable.{DraftTable};
 ghost use Rattle.dv_meta.specs.Columns.{system_names, names_by, names_of};
 ghost use Rattle.dv_meta.specs.Index.{Finds, FindsColumns, IsIndexOf};
-ghost use Rattle.dv_meta.specs.Limits.{IsWithinLimits};
-ghost use Rattle.dv_meta.specs.Names.{Name, stands_before};
+ghost use Rattle.dv_schema.specs.Limits.{IsWithinLimits};
+ghost use Rattle.dv_schema.specs.Names.{Name, stands_before};
 ghost use Rattle.dv_meta.specs.NameTaken.{taken_in, taken_at_table, takes_column, taken_in_tables, taken_in_relationships, name_taken};
 
-use crate::draft::{Draft, DraftColumn, DraftForm, DraftRelationship, DraftTable};
 use crate::index::{Columns, Index};
 use crate::lookup::table_at;
 use crate::names::Numbers;
-use crate::place::Place;
 use crate::spelling::with_ending;
+use dv_schema::{Draft, DraftColumn, DraftForm, DraftRelationship, DraftTable, Place};
 use dv_value::Text;
 use std::alloc::{AllocError, Global};
 

@@ -1,17 +1,16 @@
 ghost use Rattle.std.specs.Prelude.{◌≡◌, not, position, option_map, IfSome};
 ghost use Rattle.dv_meta.specs.Columns.{column_names};
-ghost use Rattle.dv_meta.specs.First.{first};
+ghost use Rattle.dv_schema.specs.First.{first};
 ghost use Rattle.dv_meta.specs.Index.{FindsColumns, IsIndexOf};
-ghost use Rattle.dv_meta.specs.Names.{is_among};
+ghost use Rattle.dv_schema.specs.Names.{is_among};
 ghost use Rattle.dv_meta.specs.UnknownName.{of_unknown, source_of, rollup_unknown, column_unknown, is_lookup, names_lookup, relationship_unknown, names_unknown, given_unknown, registration_unknown_on, registration_unknown, privilege_unknown, role_unknown, unknown_in, unknown_in_tables, unknown_in_relationships, unknown_in_steps, unknown_in_roles, unknown_name};
 
-use crate::draft::{
-    Draft, DraftColumn, DraftForm, DraftRegistration, DraftRelationship, DraftRollup, DraftTable,
-};
 use crate::index::Index;
 use crate::lookup::{Found, column_named, relationship_named, table_named};
-use crate::opening::{Entry, Role};
-use crate::place::Place;
+use dv_schema::{
+    Draft, DraftColumn, DraftForm, DraftRegistration, DraftRelationship, DraftRollup, DraftTable,
+    Entry, Place, Role,
+};
 use dv_value::{Names, Text};
 
 /// The table whose rows a rollup takes.

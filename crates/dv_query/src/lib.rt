@@ -8,8 +8,6 @@ mod filter;
 mod link;
 mod operator;
 mod query;
-#[cfg(test)]
-mod tests;
 
 pub use filter::{Condition, Filter};
 pub use link::{Join, Link};

@@ -7,6 +7,6 @@
 mod reply;
 mod request;
 
-pub use dv_value::Refusal;
+pub use dv_refusal::Refusal;
 pub use reply::{Change, Reply, Share};
 pub use request::Request;

@@ -1,4 +1,5 @@
-use dv_value::{Id, Raw, Refusal, Text, Token, Values};
+use dv_refusal::Refusal;
+use dv_value::{Id, Raw, Text, Token, Values};
 use sqlite_items::Items;
 
 /// What a caller is told.

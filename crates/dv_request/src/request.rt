@@ -1,5 +1,5 @@
-use dv_meta::{Entry, Role};
 use dv_query::Query;
+use dv_schema::{Entry, Role};
 use dv_value::{Id, Names, Text, Token, Values};
 use sqlite_items::{Boxed, Items};
 

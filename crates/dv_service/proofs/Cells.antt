@@ -8,7 +8,8 @@ use Rattle.dv_service.specs.declared.reply.Cell.{Cell}
 use Rattle.dv_service.specs.declared.reply.Shown.{Shown}
 use Rattle.dv_service.specs.declared.reply.Reply.{Reply}
 use Rattle.dv_service.specs.declared.reply.Reply.TheVariants.{Opened, Created, Rows, Refused}
-use Rattle.dv_value.proofs.Floats.{either_of, put-float, refusal_data-float}
+use Rattle.dv_value.proofs.Floats.{either_of, put-float}
+use Rattle.dv_refusal.proofs.Floats.{refusal_data-float}
 
 append_one : (cells : List Cell) (cell : Cell) (ms : Members) → with_cells (cells ++ cell ∷ []) ms ≡ put (encode_utf8_all cell.name) (cell_data cell.text) (with_cells cells ms)
 unfolding with_cells

@@ -3,7 +3,7 @@ use Rattle.std.proofs.Common.{◌≡◌, ℕ, List, Bool, true, false, Option, S
 use Rattle.std.specs.Fmt.{digits}
 use Rattle.serde_json.proofs.OnLiterals.{serde_json_on_literals}
 use Rattle.dv_value.specs.declared.id.Id.{Id}
-use Rattle.dv_value.specs.declared.refusal.Refusal.{Refusal}
+use Rattle.dv_refusal.specs.declared.refusal.Refusal.{Refusal}
 use Rattle.dv_service.specs.Replies.{reply_line, reply_data}
 use Rattle.dv_service.specs.declared.reply.Reply.TheVariants.{Created, Refused}
 

@@ -4,7 +4,7 @@ use Rattle.std.specs.Str.{bytes_eq}
 use Rattle.std.proofs.lemmas.Bool.{eq-eqb, leb-false, not-true}
 use Rattle.serde_json.specs.Data.{Data}
 use Rattle.dv_value.specs.declared.raw.Raw.{Raw}
-use Rattle.dv_value.specs.declared.refusal.Refusal.TheVariants.{Malformed, NotBuilt}
+use Rattle.dv_refusal.specs.declared.refusal.Refusal.TheVariants.{Malformed, NotBuilt}
 use Rattle.dv_service.specs.Lines.{within_limit}
 use Rattle.dv_service.specs.Requests.{request_of}
 use Rattle.dv_service.specs.Serve.{is_built, is_for, is_past_limit, effect, serve, serve_request, serve_object, object_of, answer}

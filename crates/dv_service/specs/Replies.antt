@@ -4,8 +4,8 @@ use Rattle.serde_json.specs.Data.{Data, null, boolean, number, unsigned, array, 
 use Rattle.serde_json.specs.View.{items_of}
 use Rattle.serde_json.specs.Written.{compact_text}
 use Rattle.dv_value.specs.Printed.{id_data, text_data}
-use Rattle.dv_value.specs.Refusals.{refusal_data}
-use Rattle.dv_value.specs.declared.refusal.Refusal.TheVariants.{BadDefinition}
+use Rattle.dv_refusal.specs.Refusals.{refusal_data}
+use Rattle.dv_refusal.specs.declared.refusal.Refusal.TheVariants.{BadDefinition}
 use Rattle.dv_service.specs.declared.reply.Cell.{Cell}
 use Rattle.dv_service.specs.declared.reply.Shown.{Shown}
 use Rattle.dv_service.specs.declared.reply.Reply.{Reply}

@@ -9,7 +9,7 @@ use Rattle.dv_value.specs.Raws.{value_of}
 use Rattle.dv_value.specs.declared.id.Id.{Id}
 use Rattle.dv_value.specs.declared.raw.Raw.{Raw}
 use Rattle.dv_value.specs.declared.raw.Raw.TheVariants as raw
-use Rattle.dv_value.specs.declared.refusal.Refusal.TheVariants.{Malformed, UnknownCaller, NotBuilt}
+use Rattle.dv_refusal.specs.declared.refusal.Refusal.TheVariants.{Malformed, UnknownCaller, NotBuilt}
 use Rattle.dv_value.specs.declared.value.Value.{Value}
 use Rattle.dv_value.specs.declared.value.Value.TheVariants as value
 use Rattle.dv_store.specs.Rows.{with_row}

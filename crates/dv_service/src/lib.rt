@@ -21,8 +21,6 @@ mod serving;
 mod session;
 mod showing;
 mod status;
-#[cfg(test)]
-mod tests;
 
 pub use definition::{Column, Definition};
 pub use org::Org;

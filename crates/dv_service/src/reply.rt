@@ -1,4 +1,5 @@
-use dv_value::{Id, Refusal, Text};
+use dv_refusal::Refusal;
+use dv_value::{Id, Text};
 use sqlite_items::Items;
 
 /// A cell of a row that is shown. An empty one has no text.

@@ -6,8 +6,6 @@
 
 mod row;
 mod store;
-#[cfg(test)]
-mod tests;
 
 pub use row::Row;
 pub use store::Store;

@@ -6,11 +6,8 @@ use Rattle.serde_json.specs.Data.{Data, Members, no_members, member, put}
 use Rattle.serde_json.specs.Find.{of_integer, is_float}
 use Rattle.serde_json.specs.Written.{has_float, members_have_float}
 use Rattle.dv_value.specs.Printed.{raw_data, with_values, values_data}
-use Rattle.dv_value.specs.Refusals.{details_of, refusal_members, refusal_data}
 use Rattle.dv_value.specs.declared.raw.Raw.{Raw}
 use Rattle.dv_value.specs.declared.raw.Raw.TheVariants.{Null, Bool as Flag, Int, Str}
-use Rattle.dv_value.specs.declared.refusal.Refusal.{Refusal}
-use Rattle.dv_value.specs.declared.refusal.Refusal.TheVariants.{StepFailed}
 
 pub either_of : (a b : Bool) → a ≡ false → b ≡ false → (a || b) ≡ false
 either_of true b e f = e
@@ -54,15 +51,3 @@ with_values-float (v ∷ values) ms m = with_values-float values _ (put-float (e
 pub values-float : (values : List (List ℕ × Raw)) → has_float (values_data values) ≡ false
 unfolding values_data
 values-float values = with_values-float values no_members refl
-
-details-float : (refusal : Refusal) → members_have_float (details_of refusal) ≡ false
-unfolding details_of
-details-float (StepFailed code step text) = either_of _ _ (integer-float code) refl
-details-float _ = refl
-
-pub refusal_members-float : (refusal : Refusal) → members_have_float (refusal_members refusal) ≡ false
-unfolding refusal_members
-refusal_members-float refusal = put-float _ _ (details_of refusal) refl (details-float refusal)
-
-pub refusal_data-float : (refusal : Refusal) → has_float (refusal_data refusal) ≡ false
-refusal_data-float refusal = refusal_members-float refusal

@@ -6,9 +6,7 @@ pub mod Moment
 pub mod Order
 pub mod Printed
 pub mod Raws
-pub mod Refusals
 pub mod Spelling
 pub mod Texts
 pub mod Tokens
 pub mod Typing
-pub mod Whats

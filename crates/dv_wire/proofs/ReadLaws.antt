@@ -7,7 +7,7 @@ use Rattle.dv_form.specs.Found.{fault_of}
 use Rattle.dv_form.specs.Members.{id_of_json}
 use Rattle.dv_form.specs.Walk as walk
 use Rattle.dv_form.specs.declared.fault.Fault.{Fault}
-use Rattle.dv_meta.specs.Reading.{at}
+use Rattle.dv_schema.specs.Reading.{at}
 use Rattle.dv_value.specs.Json.{json_of}
 use Rattle.dv_value.specs.declared.id.Id.{Id}
 use Rattle.dv_request.specs.declared.request.Request.{Request}

@@ -3,7 +3,7 @@ use Rattle.std.specs.Prelude.{ℕ, pos, List, false, Option, Some, None, map, op
 use Rattle.serde_json.specs.Data.{Data}
 use Rattle.serde_json.specs.Find.{get}
 use Rattle.dv_form.specs.Members.{flag_of, integer_of, text_of}
-use Rattle.dv_meta.specs.Reading.{at, says, names_of}
+use Rattle.dv_schema.specs.Reading.{at, says, names_of}
 use Rattle.dv_query.specs.Words.{operator_of, join_of}
 use Rattle.dv_query.specs.declared.filter.Condition.{Condition}
 use Rattle.dv_query.specs.declared.filter.Filter.{Filter}

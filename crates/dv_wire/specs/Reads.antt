@@ -5,7 +5,7 @@ use Rattle.dv_form.specs.Forms.{object_of}
 use Rattle.dv_form.specs.Places.{path_text}
 use Rattle.dv_form.specs.Walk.{Found, first_fault}
 use Rattle.dv_form.specs.Members.{id_of_json}
-use Rattle.dv_meta.specs.Reading.{at}
+use Rattle.dv_schema.specs.Reading.{at}
 use Rattle.dv_value.specs.Json.{json_of}
 use Rattle.dv_value.specs.declared.id.Id.{Id}
 use Rattle.dv_request.specs.declared.request.Request.{Request}

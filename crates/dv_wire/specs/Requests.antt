@@ -3,7 +3,7 @@ use Rattle.std.specs.Prelude.{ℕ, pos, List, map, option_map, option_and_then, 
 use Rattle.serde_json.specs.Data.{Data}
 use Rattle.serde_json.specs.Find.{get}
 use Rattle.dv_form.specs.Members.{flag_of, id_of_json, integer_of, text_of, raw_values_of, list_of}
-use Rattle.dv_meta.specs.Reading.{at, says, names_of, role_of, entry_of}
+use Rattle.dv_schema.specs.Reading.{at, says, names_of, role_of, entry_of}
 use Rattle.dv_request.specs.declared.request.Request.{Request}
 use Rattle.dv_request.specs.declared.request.Request.TheVariants.{Create, Retrieve, Update, Delete, Assign, Grant, Modify, Revoke, Access, Shares, Query, Changes, Rollup, WhoAmI, RollupJob, Trim, Multiple, Transaction, AddUnit, MoveUnit, AddUser, MoveUser, SetEnabled, AddTeam, AddMember, RemoveMember, AddRole, SetPrivileges, GiveRole, TakeRole}
 use Rattle.dv_wire.specs.declared.verb.Verb.{Verb}

@@ -7,8 +7,8 @@ ghost use Rattle.dv_wire.specs.Requests as say;
 // The messages that change the directory, member by member.
 use crate::verb::Verb;
 use dv_form::{FromJson, members_of, says_at, take_at};
-use dv_meta::Role;
 use dv_request::Request;
+use dv_schema::Role;
 use serde_json::Value as Json;
 use std::alloc::{AllocError, Global};
 

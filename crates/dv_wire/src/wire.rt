@@ -2,7 +2,7 @@ ghost use Rattle.std.specs.Prelude.{◌≡◌, ℕ, List, Some, IfOk, IsErrOf};
 ghost use Rattle.serde_json.specs.Data.{Data};
 ghost use Rattle.serde_json.specs.View.{view};
 ghost use Rattle.dv_form.specs.Members.{id_of_json};
-ghost use Rattle.dv_meta.specs.Reading.{at};
+ghost use Rattle.dv_schema.specs.Reading.{at};
 ghost use Rattle.dv_value.specs.Json.{json_of};
 ghost use Rattle.dv_wire.specs.Reads.{spelled, faulty, reads};
 ghost use Rattle.dv_wire.specs.Spelled.{IsSpelled};

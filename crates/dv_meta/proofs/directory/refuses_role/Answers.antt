@@ -1,10 +1,10 @@
 use Rattle.std.proofs.Common.{◌≡◌, false, sym, ap, ◌∙◌, eqb, leb, is_some}
 use Rattle.std.specs.Prelude.{◌||◌}
 use Rattle.std.specs.List.{list_any}
-use Rattle.dv_meta.specs.Directory.{adding_entry}
-use Rattle.dv_meta.specs.Opening.{owned}
-use Rattle.dv_meta.specs.Seats.{directory_of}
-use Rattle.dv_meta.proofs.OpeningLaws.{adding_role-free, eqb-no}
+use Rattle.dv_opening.specs.Directory.{adding_entry}
+use Rattle.dv_meta.specs.Named.{owned}
+use Rattle.dv_opening.specs.Seats.{directory_of}
+use Rattle.dv_opening.proofs.OpeningLaws.{adding_role-free, eqb-no}
 use Rattle.dv_meta.proofs.directory.refuses_role.Goals as goal
 
 pub returns-then-one_entry_refused : goal.returns-then-one_entry_refused

@@ -2,9 +2,9 @@ use Rattle.std.proofs.Common.{◌≤◌, Bool, true, false, List, length, ap, �
 use Rattle.std.proofs.lemmas.List.{length-map}
 use Rattle.dv_meta.specs.Columns.{column_names, names_of, system_columns}
 use Rattle.dv_meta.specs.Index.{Finds}
-use Rattle.dv_meta.specs.Names.{Name}
-use Rattle.dv_meta.specs.declared.draft.DraftColumn.{DraftColumn}
-use Rattle.dv_meta.specs.declared.table.Column.{Column}
+use Rattle.dv_schema.specs.Names.{Name}
+use Rattle.dv_schema.specs.declared.draft.DraftColumn.{DraftColumn}
+use Rattle.dv_schema.specs.declared.table.Column.{Column}
 use Rattle.dv_meta.proofs.index.column_numbers.Goals as goal
 
 few : (owned : Bool) → length (system_columns owned) ≤ 8

@@ -2,7 +2,7 @@ use Rattle.std.proofs.Common.{◌≡◌, ◌+◌, ◌≤◌, List, [], length, t
 use Rattle.std.proofs.lemmas.List.{length-append}
 use Rattle.dv_meta.specs.Columns.{names_of}
 use Rattle.dv_meta.specs.Index.{Finds}
-use Rattle.dv_meta.specs.Names.{Name}
+use Rattle.dv_schema.specs.Names.{Name}
 use Rattle.dv_meta.proofs.IndexLaws.{flat_map-take-more, length-names_by}
 use Rattle.dv_meta.proofs.index.number_columns.Goals as goal
 

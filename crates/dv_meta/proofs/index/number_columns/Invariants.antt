@@ -1,7 +1,7 @@
 use Rattle.std.proofs.Common.{◌≡◌, ◌+◌, ◌*◌, ◌≤◌, ◌++◌, List, length, take, flat_map}
 use Rattle.dv_meta.specs.Columns.{names_of}
 use Rattle.dv_meta.specs.Index.{Finds}
-use Rattle.dv_meta.specs.Names.{Name}
+use Rattle.dv_schema.specs.Names.{Name}
 use Rattle.dv_meta.proofs.index.number_columns.Given as goal
 
 abbrev pub invariant-loop-column : goal.invariant-loop-column

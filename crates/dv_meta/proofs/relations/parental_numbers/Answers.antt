@@ -2,10 +2,10 @@ use Rattle.std.proofs.Common.{sym, ap, ◌∙◌, arith, Some, None, cond}
 use Rattle.std.specs.Prelude.{◌&&◌}
 use Rattle.std.specs.Option.{option_or}
 use Rattle.std.proofs.lemmas.List.{take_all}
-use Rattle.dv_meta.specs.First.{first_from}
-use Rattle.dv_meta.specs.Names.{same_name}
+use Rattle.dv_schema.specs.First.{first_from}
+use Rattle.dv_schema.specs.Names.{same_name}
 use Rattle.dv_meta.specs.Relations.{parental_of, is_parental}
-use Rattle.dv_meta.proofs.FirstLaws.{first_from-take-more}
+use Rattle.dv_schema.proofs.FirstLaws.{first_from-take-more}
 use Rattle.dv_meta.proofs.relations.parental_numbers.Goals as goal
 
 pub loop-k-init : goal.loop-k-init

@@ -1,5 +1,5 @@
 use Rattle.std.proofs.Common.{◌≡◌, take}
-use Rattle.dv_meta.specs.Names.{Name}
+use Rattle.dv_schema.specs.Names.{Name}
 use Rattle.dv_meta.specs.Numbers.{number_in}
 use Rattle.dv_meta.specs.Relations.{parental_of}
 use Rattle.dv_meta.proofs.relations.parental_numbers.Given as goal

@@ -1,5 +1,5 @@
 use Rattle.std.proofs.Common.{◌≡◌, drop}
-use Rattle.dv_meta.specs.First.{first, first_from}
+use Rattle.dv_schema.specs.First.{first, first_from}
 use Rattle.dv_meta.specs.Rollups.{bad_in}
 use Rattle.dv_meta.proofs.rollups.bad_in_each.Given as goal
 

@@ -1,6 +1,6 @@
 use Rattle.std.proofs.Common.{◌≡◌, ◌<◌, length, get_or, sym, ap, ◌∙◌, arith}
 use Rattle.dv_meta.specs.Columns.{column_names}
-use Rattle.dv_meta.proofs.FirstLaws.{first_from-more, first_from-found, first_from-end}
+use Rattle.dv_schema.proofs.FirstLaws.{first_from-more, first_from-found, first_from-end}
 use Rattle.dv_meta.proofs.TakenLaws.{takes_at, takes_at-true, takes_at-false, takes_name-at, taken_in-is, column_number-first, column_number-next, length-system_names}
 use Rattle.dv_meta.proofs.taken.taken_in.Goals as goal
 

@@ -1,5 +1,5 @@
 use Rattle.std.proofs.Common.{◌≡◌, ◌+◌, ◌*◌, ◌≤◌, drop}
-use Rattle.dv_meta.specs.First.{first_from}
+use Rattle.dv_schema.specs.First.{first_from}
 use Rattle.dv_meta.specs.Columns.{column_number}
 use Rattle.dv_meta.specs.NameTaken.{taken_in}
 use Rattle.dv_meta.proofs.TakenLaws.{takes_at}

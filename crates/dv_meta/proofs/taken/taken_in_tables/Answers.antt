@@ -1,6 +1,6 @@
 use Rattle.std.proofs.Common.{sym, ◌∙◌, arith}
 use Rattle.dv_meta.specs.NameTaken.{taken_at_table, taken_in_tables}
-use Rattle.dv_meta.proofs.FirstLaws.{first_from-more_at, first_from-found_at, first_from-end}
+use Rattle.dv_schema.proofs.FirstLaws.{first_from-more_at, first_from-found_at, first_from-end}
 use Rattle.dv_meta.proofs.taken.taken_in_tables.Goals as goal
 
 pub returns-in-Some : goal.returns-in-Some

@@ -1,5 +1,5 @@
 use Rattle.std.proofs.Common.{◌≡◌, drop}
-use Rattle.dv_meta.specs.First.{first, first_from}
+use Rattle.dv_schema.specs.First.{first, first_from}
 use Rattle.dv_meta.specs.NameTaken.{taken_at_table}
 use Rattle.dv_meta.proofs.taken.taken_in_tables.Given as goal
 

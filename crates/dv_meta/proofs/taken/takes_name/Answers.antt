@@ -2,7 +2,7 @@ use Rattle.std.proofs.Common.{◌≡◌, [], ◌∷◌, ap, ◌∙◌}
 use Rattle.std.specs.List.{list_any}
 use Rattle.std.specs.Str.{chars}
 use Rattle.dv_meta.specs.Columns.{names_of, names_by, state_name, date_name}
-use Rattle.dv_meta.specs.Names.{stands_before}
+use Rattle.dv_schema.specs.Names.{stands_before}
 use Rattle.dv_meta.proofs.taken.takes_name.Goals as goal
 
 pub returns-in_ok-date-in-Rollup : goal.returns-in_ok-date-in-Rollup

@@ -1,6 +1,6 @@
 use Rattle.std.proofs.Common.{sym, ◌∙◌, arith}
 use Rattle.dv_meta.specs.UnknownName.{unknown_in}
-use Rattle.dv_meta.proofs.FirstLaws.{first_from-more, first_from-found, first_from-end}
+use Rattle.dv_schema.proofs.FirstLaws.{first_from-more, first_from-found, first_from-end}
 use Rattle.dv_meta.proofs.unknown.unknown_in_each.Goals as goal
 
 pub returns-in-Some : goal.returns-in-Some

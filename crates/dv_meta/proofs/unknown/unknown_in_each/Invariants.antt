@@ -1,5 +1,5 @@
 use Rattle.std.proofs.Common.{◌≡◌, drop}
-use Rattle.dv_meta.specs.First.{first, first_from}
+use Rattle.dv_schema.specs.First.{first, first_from}
 use Rattle.dv_meta.specs.UnknownName.{unknown_in}
 use Rattle.dv_meta.proofs.unknown.unknown_in_each.Given as goal
 

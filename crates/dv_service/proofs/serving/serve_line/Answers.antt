@@ -1,7 +1,7 @@
 use Rattle.std.proofs.Common.{sym, ◌∙◌, ap}
 use Rattle.std.specs.Option.{option_map}
 use Rattle.serde_json.specs.View.{view}
-use Rattle.dv_value.specs.declared.refusal.Refusal.TheVariants.{Malformed, NotBuilt}
+use Rattle.dv_refusal.specs.declared.refusal.Refusal.TheVariants.{Malformed, NotBuilt}
 use Rattle.dv_service.specs.declared.reply.Reply.TheVariants.{Refused}
 use Rattle.dv_service.proofs.Steps.{answer-none, answer-unread, answer-read}
 use Rattle.dv_service.proofs.serving.serve_line.Goals as goal

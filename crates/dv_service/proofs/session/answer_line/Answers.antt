@@ -1,7 +1,7 @@
 use Rattle.std.proofs.Common.{refl, sym, ◌∙◌, ap, subst, inl, inr}
 use Rattle.std.specs.Io.KnownBytes.{append_known}
 use Rattle.dv_base.specs.Sink.{IsCut}
-use Rattle.dv_value.specs.declared.refusal.Refusal.TheVariants.{OutOfMemory}
+use Rattle.dv_refusal.specs.declared.refusal.Refusal.TheVariants.{OutOfMemory}
 use Rattle.dv_service.specs.Replies.{reply_line}
 use Rattle.dv_service.specs.declared.reply.Reply.TheVariants.{Refused}
 use Rattle.dv_service.proofs.Results.{OnOk-map, OnErr-map}

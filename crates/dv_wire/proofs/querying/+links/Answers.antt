@@ -4,7 +4,7 @@ use Rattle.serde_json.specs.Find.{as_str}
 use Rattle.serde_json.specs.View.{view, members_view}
 use Rattle.dv_form.specs.Members.{text_of}
 use Rattle.dv_form.proofs.Reading.{all_left, one_less}
-use Rattle.dv_meta.specs.Reading.{names_of}
+use Rattle.dv_schema.specs.Reading.{names_of}
 use Rattle.dv_query.specs.Words.{join_of}
 use Rattle.dv_query.specs.declared.link.Join.TheVariants.{Inner}
 use Rattle.dv_wire.specs.Queries.{filter_of, filter_at, join_at, link_of}

@@ -3,7 +3,7 @@ use Rattle.serde_json.specs.Data.{null}
 use Rattle.serde_json.specs.View.{view}
 use Rattle.dv_form.specs.Members.{text_of}
 use Rattle.dv_form.proofs.Reading.{all_left, one_less}
-use Rattle.dv_meta.specs.Reading.{names_of}
+use Rattle.dv_schema.specs.Reading.{names_of}
 use Rattle.dv_wire.specs.Queries.{filter_of, filter_at, link_of, order_of, query_of}
 use Rattle.dv_wire.proofs.Lists.{list_left}
 use Rattle.dv_wire.proofs.QueryLaws.{part_same}

@@ -1,6 +1,6 @@
 use Rattle.std.proofs.Common.{ap, ◌∙◌, Some, None, cond}
 use Rattle.std.specs.Option.{option_or}
-use Rattle.dv_meta.specs.Names.{same_name}
+use Rattle.dv_schema.specs.Names.{same_name}
 use Rattle.dv_meta.proofs.NumbersLaws.{lookup_in-added}
 use Rattle.dv_meta.proofs.names.Lookups.add.Goals as goal
 
