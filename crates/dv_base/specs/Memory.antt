@@ -1,7 +1,7 @@
 -- Objects in memory tell all that they hold, and fail where they were told to.
 use Rattle.std.specs.Prelude.{ℕ, List}
 
--- a source in memory
+-- A source in memory, which contracts see as these three.
 pub record SourceInMemory : Type 0 where
   -- the bytes that are still to be read
   pub left : List ℕ
@@ -10,7 +10,7 @@ pub record SourceInMemory : Type 0 where
   -- how often it failed
   pub faults : ℕ
 
--- a sink in memory
+-- A sink in memory, which contracts see as these four.
 pub record SinkInMemory : Type 0 where
   -- the bytes that were written
   pub written : List ℕ

@@ -1,4 +1,4 @@
--- A sink's bytes are written one piece after the other; a fault may come between two parts of a piece.
+-- A sink's bytes are written piece by piece; a fault may come between two parts of a piece.
 use Rattle.std.specs.Prelude.{◌≡◌, ℕ, ◌<◌, List, Option, length, take}
 use Rattle.std.specs.Io.KnownBytes.{append_known}
 

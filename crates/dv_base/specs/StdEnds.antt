@@ -1,13 +1,13 @@
--- A reader or a writer of std as an end: contracts see it whole, with the count of its faults beside it.
+-- A reader or a writer of std as an end: contracts see it whole, and the count of its faults.
 use Rattle.std.specs.Prelude.{ℕ}
 
--- a source over a reader
+-- A source over a reader.
 pub record SourceOver (R : Type 0) : Type 0 where
   pub reader : R
   -- how often the reader refused
   pub faults : ℕ
 
--- a sink over a writer
+-- A sink over a writer.
 pub record SinkOver (W : Type 0) : Type 0 where
   pub writer : W
   -- how often the writer refused, or took nothing of a nonempty piece

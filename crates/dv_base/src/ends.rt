@@ -1,4 +1,4 @@
-// What gives bytes and what takes them, as the service sees them.
+//! What gives bytes and what takes them, as the service sees them.
 ghost use Rattle.std.specs.Prelude.{◌≡◌, ◌<◌, ℕ, List, Option, length, take, IfOk, OnErr};
 ghost use Rattle.std.specs.Io.{ReadsAtMost, WritesAtMost};
 ghost use Rattle.std.specs.Io.KnownBytes.{prepend_known, append_known};
@@ -18,10 +18,12 @@ pub trait Ends {
     /// The bytes that were written so far.
     ghost written: { Self → Option (List ℕ) };
 
-    /// How often the object failed as a source. The count never falls, and stands still at 2^64 - 1.
+    /// How often the object failed as a source. The count rises only where a read answers [`Failed`], never falls, and
+    /// stands still at 2^64 - 1.
     ghost read_faults: { Self → ℕ };
 
-    /// How often the object failed as a sink. The count never falls, and stands still at 2^64 - 1.
+    /// How often the object failed as a sink. The count rises only where a write answers [`Failed`], never falls, and
+    /// stands still at 2^64 - 1.
     ghost write_faults: { Self → ℕ };
 }
 
@@ -29,11 +31,12 @@ pub trait Ends {
 pub trait Source: Ends {
     /// Moves bytes to the front of `buf` and answers how many.
     ///
-    /// With a nonempty buffer, 0 is the end of the input. Fewer bytes than there is room for are no sign of it. What
-    /// stands in `buf` behind the bytes that were moved, and all of it after [`Failed`], isn't said.
+    /// With a nonempty buffer, 0 is the end of the input; fewer bytes than the buffer holds are not. Nothing is said of
+    /// the rest of `buf` behind the bytes that were moved, or of any of it after [`Failed`].
     fn read(&mut self, buf: &mut [u8]) -> Result<usize, Failed>
         ensures bound { ReadsAtMost result buf.new }
-        ensures taken { IfOk result (λ n. Self.left self.old ≡ prepend_known (take n buf.new) (Self.left self.new)) }
+        ensures taken { IfOk result (λ n.
+            Self.left self.old ≡ prepend_known (take n buf.new) (Self.left self.new)) }
         ensures end { IfOk result (λ n. IsEmptyExactlyAtEnd n buf.new (Self.left self.old)) }
         ensures kept { OnErr result (Self.left self.new ≡ Self.left self.old) }
         ensures cause { HasCause (Self.read_faults self.old) (Self.read_faults self.new) result }
@@ -50,7 +53,8 @@ pub trait Sink: Ends {
     /// A sink that can take none of a nonempty piece counts a fault and answers [`Failed`].
     fn write(&mut self, bytes: &[u8]) -> Result<usize, Failed>
         ensures bound { WritesAtMost result bytes.now }
-        ensures taken { IfOk result (λ n. Self.written self.new ≡ append_known (Self.written self.old) (take n bytes.now)) }
+        ensures taken { IfOk result (λ n.
+            Self.written self.new ≡ append_known (Self.written self.old) (take n bytes.now)) }
         ensures progress { IfOk result (λ n. 0 < length bytes.now → 0 < n) }
         ensures kept { OnErr result (Self.written self.new ≡ Self.written self.old) }
         ensures cause { HasCause (Self.write_faults self.old) (Self.write_faults self.new) result }

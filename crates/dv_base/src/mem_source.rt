@@ -1,5 +1,5 @@
-// A source that holds its bytes in memory.
-ghost use Rattle.std.specs.Prelude.{◌≡◌, ◌-◌, ◌≤◌, ◌↔◌, ◌++◌, Some, None, length, take, drop, min, IfOk, OnOk, OnErr, IsErr};
+//! A source that holds its bytes in memory.
+ghost use Rattle.std.specs.Prelude.{◌≡◌, ◌-◌, ◌≤◌, ◌↔◌, ◌++◌, Some, None, length, take, drop, min, IfOk, OnErr, IsErr};
 ghost use Rattle.dv_base.specs.Faults.{raised, HasCause};
 
 use crate::ends::{Ends, Source};
@@ -24,7 +24,11 @@ impl Model for MemSource {
 
     ghost Value = { SourceInMemory };
 
-    ghost view = { λ s. record { left = drop s.at s.bytes.items; failing_call = s.failing_call; faults = s.faults } };
+    ghost view = { λ s. record {
+      left = drop s.at s.bytes.items;
+      failing_call = s.failing_call;
+      faults = s.faults;
+    } };
 
     ghost invariant = { λ s. s.at ≤ length s.bytes.items };
 }
@@ -72,7 +76,6 @@ impl Source for MemSource {
         ensures taken { IfOk result (λ n. self.old.left ≡ take n buf.new ++ self.new.left) }
         ensures kept { OnErr result (self.new.left ≡ self.old.left) }
         ensures cause { HasCause self.old.faults self.new.faults result }
-        ensures no_fault { OnOk result (self.new.faults ≡ self.old.faults) }
         ensures fault { OnErr result (self.new.faults ≡ raised self.old.faults) }
     {
         if self.failing_call.is_now() {

@@ -1,5 +1,5 @@
-// Any writer of std as a sink.
-ghost use Rattle.std.specs.Prelude.{◌≡◌, ◌<◌, None, length, IfOk, OnOk, OnErr};
+//! Any writer of std as a sink.
+ghost use Rattle.std.specs.Prelude.{◌≡◌, ◌<◌, None, length, IfOk, OnErr};
 ghost use Rattle.std.specs.Io.{WritesAtMost};
 ghost use Rattle.std.specs.Io.KnownBytes.{WriteAppends};
 ghost use Rattle.dv_base.specs.Faults.{raised, HasCause};
@@ -55,10 +55,10 @@ impl<W: Write> Ends for StdSink<W> {
 impl<W: Write> Sink for StdSink<W> {
     fn write(&mut self, bytes: &[u8]) -> Result<usize, Failed>
         ensures bound { WritesAtMost result bytes.now }
-        ensures bytes { WriteAppends (W.contents self.old.writer) (W.contents self.new.writer) result bytes.now }
+        ensures bytes { WriteAppends (W.contents self.old.writer) (W.contents self.new.writer)
+            result bytes.now }
         ensures progress { IfOk result (λ n. 0 < length bytes.now → 0 < n) }
         ensures cause { HasCause self.old.faults self.new.faults result }
-        ensures no_fault { OnOk result (self.new.faults ≡ self.old.faults) }
         ensures fault { OnErr result (self.new.faults ≡ raised self.old.faults) }
     {
         match self.writer.write(bytes) {

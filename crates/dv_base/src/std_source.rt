@@ -1,5 +1,5 @@
-// Any reader of std as a source.
-ghost use Rattle.std.specs.Prelude.{◌≡◌, None, OnOk, OnErr};
+//! Any reader of std as a source.
+ghost use Rattle.std.specs.Prelude.{◌≡◌, None, OnErr};
 ghost use Rattle.std.specs.Io.{ReadsAtMost};
 ghost use Rattle.std.specs.Io.KnownBytes.{ReadConsumes};
 ghost use Rattle.dv_base.specs.Faults.{raised, HasCause};
@@ -54,9 +54,9 @@ impl<R: Read> Ends for StdSource<R> {
 impl<R: Read> Source for StdSource<R> {
     fn read(&mut self, buf: &mut [u8]) -> Result<usize, Failed>
         ensures bound { ReadsAtMost result buf.new }
-        ensures bytes { ReadConsumes (R.remaining self.old.reader) (R.remaining self.new.reader) result buf.new }
+        ensures bytes { ReadConsumes (R.remaining self.old.reader) (R.remaining self.new.reader)
+            result buf.new }
         ensures cause { HasCause self.old.faults self.new.faults result }
-        ensures no_fault { OnOk result (self.new.faults ≡ self.old.faults) }
         ensures fault { OnErr result (self.new.faults ≡ raised self.old.faults) }
     {
         match self.reader.read(buf) {

@@ -1,4 +1,4 @@
-use Rattle.std.proofs.Common.{◌≡◌, ◌⊎◌, ℕ, ◌<◌, ◌≤◌, ◌^◌, List, [], ◌∷◌, ◌++◌, filter, length, length-append, true, Option, Some, None, IfSome, refl, sym, inl, inr, ap, ◌∙◌, arith}
+use Rattle.std.proofs.Common.{◌≡◌, ◌⊎◌, ℕ, ◌<◌, ◌≤◌, List, [], ◌∷◌, ◌++◌, filter, length, length-append, true, Option, Some, None, IfSome, refl, sym, inl, inr, ap, ◌∙◌, arith}
 use Rattle.std.specs.Io.KnownBytes.{prepend_known, IsAtEnd}
 use Rattle.std.proofs.lemmas.List.{append-nil}
 use Rattle.dv_base.specs.Faults.{Rose}
@@ -6,7 +6,9 @@ use Rattle.dv_service.specs.Lines.{has_content, open_line, lines_of}
 use Rattle.dv_service.specs.Definitions.{opening_of}
 use Rattle.dv_service.specs.Machine.{Run}
 use Rattle.dv_service.specs.Statuses.{is_status, code_of}
-use Rattle.dv_service.specs.Outcome.{HaveEnded, EndsUnopened, RefusesFirst, NotOpened, RanToEnd, IsOpened, StoppedBetween}
+use Rattle.dv_service.specs.Outcome.{HaveEnded, EndsUnopened, RefusesFirst, NotOpened, RanToEnd, IsOpened, StoppedAtLimit, Ran}
+use Rattle.dv_service.specs.Sessions.{TellsFault}
+use Rattle.dv_service.specs.declared.run.TheConstants.{INPUT_LIMIT}
 use Rattle.dv_service.specs.declared.definition.Definition.{Definition}
 use Rattle.dv_service.specs.declared.org.Org.{Org}
 use Rattle.dv_service.specs.declared.reply.Reply.{Reply}
@@ -87,47 +89,43 @@ is_status-code_of ending.OutOfMemory = refl
 is_status-code_of ending.InputLimit = refl
 
 module _ (left_now written written_now : Option (List ℕ)) (reads reads_now writes writes_now : ℕ) where
-  past_limit : (bytes : List ℕ) → (stopped : StoppedBetween (Some bytes) left_now written written_now) × (length stopped.taken ≡ 2 ^ 40) → length bytes < 2 ^ 40 → ⊥
+  past_limit : (bytes : List ℕ) → StoppedAtLimit (Some bytes) left_now written written_now → length bytes < INPUT_LIMIT → ⊥
   past_limit bytes limit short = let fits = within bytes left_now limit.0.taken limit.0.took in omega (arith, fits, limit.1, short)
 
-  complete_at : (e : Ending) (bytes : List ℕ) → (e ≡ ending.NotOpened → NotOpened (Some bytes) left_now written written_now)
-      → (e ≡ ending.ReadFault → Rose reads reads_now) → (e ≡ ending.WriteFault → Rose writes writes_now)
-      → (e ≡ ending.InputLimit → (stopped : StoppedBetween (Some bytes) left_now written written_now) × (length stopped.taken ≡ 2 ^ 40))
-      → ¬ Rose reads reads_now → ¬ Rose writes writes_now → length bytes < 2 ^ 40 → IsOpened (lines_of bytes) → (code_of e ≡ 0) ⊎ (code_of e ≡ 9)
+  complete_at : (e : Ending) (bytes : List ℕ) → Ran e (Some bytes) left_now written written_now
+      → TellsFault (e ≡ ending.ReadFault) reads reads_now → TellsFault (e ≡ ending.WriteFault) writes writes_now
+      → ¬ Rose reads reads_now → ¬ Rose writes writes_now → length bytes < INPUT_LIMIT → IsOpened (lines_of bytes) → (code_of e ≡ 0) ⊎ (code_of e ≡ 9)
   unfolding code_of
-  complete_at ending.Done bytes unopened read write limit no_read no_write short is_opened = inl refl
-  complete_at ending.NotOpened bytes unopened read write limit no_read no_write short is_opened = absurd (opened bytes left_now written written_now (unopened refl) is_opened)
-  complete_at ending.ReadFault bytes unopened read write limit no_read no_write short is_opened = absurd (no_read (read refl))
-  complete_at ending.WriteFault bytes unopened read write limit no_read no_write short is_opened = absurd (no_write (write refl))
-  complete_at ending.OutOfMemory bytes unopened read write limit no_read no_write short is_opened = inr refl
-  complete_at ending.InputLimit bytes unopened read write limit no_read no_write short is_opened = absurd (past_limit bytes (limit refl) short)
+  complete_at ending.Done bytes ran read write no_read no_write short is_opened = inl refl
+  complete_at ending.NotOpened bytes ran read write no_read no_write short is_opened = absurd (opened bytes left_now written written_now ran is_opened)
+  complete_at ending.ReadFault bytes ran read write no_read no_write short is_opened = absurd (no_read (read.rose refl))
+  complete_at ending.WriteFault bytes ran read write no_read no_write short is_opened = absurd (no_write (write.rose refl))
+  complete_at ending.OutOfMemory bytes ran read write no_read no_write short is_opened = inr refl
+  complete_at ending.InputLimit bytes ran read write no_read no_write short is_opened = absurd (past_limit bytes ran short)
 
-  -- a run that meets no fault and no limit ends well, or for want of memory
-  pub complete : (e : Ending) (left : Option (List ℕ)) → (e ≡ ending.NotOpened → NotOpened left left_now written written_now)
-      → (e ≡ ending.ReadFault → Rose reads reads_now) → (e ≡ ending.WriteFault → Rose writes writes_now)
-      → (e ≡ ending.InputLimit → (stopped : StoppedBetween left left_now written written_now) × (length stopped.taken ≡ 2 ^ 40))
+  -- a run that meets no fault and no limit ends well, or out of memory
+  pub complete : (e : Ending) (left : Option (List ℕ)) → Ran e left left_now written written_now
+      → TellsFault (e ≡ ending.ReadFault) reads reads_now → TellsFault (e ≡ ending.WriteFault) writes writes_now
       → ¬ Rose reads reads_now → ¬ Rose writes writes_now
-      → IfSome left (λ bytes. length bytes < 2 ^ 40 → IsOpened (lines_of bytes) → (code_of e ≡ 0) ⊎ (code_of e ≡ 9))
-  complete e None unopened read write limit no_read no_write = tt
-  complete e (Some bytes) unopened read write limit no_read no_write = λ short is_opened. complete_at e bytes unopened read write limit no_read no_write short is_opened
+      → IfSome left (λ bytes. length bytes < INPUT_LIMIT → IsOpened (lines_of bytes) → (code_of e ≡ 0) ⊎ (code_of e ≡ 9))
+  complete e None ran read write no_read no_write = tt
+  complete e (Some bytes) ran read write no_read no_write = λ short is_opened. complete_at e bytes ran read write no_read no_write short is_opened
 
-  refuses_at : (e : Ending) (bytes : List ℕ) → (e ≡ ending.Done → RanToEnd (Some bytes) left_now written written_now)
-      → (e ≡ ending.ReadFault → Rose reads reads_now) → (e ≡ ending.WriteFault → Rose writes writes_now)
-      → (e ≡ ending.InputLimit → (stopped : StoppedBetween (Some bytes) left_now written written_now) × (length stopped.taken ≡ 2 ^ 40))
-      → ¬ Rose reads reads_now → ¬ Rose writes writes_now → length bytes < 2 ^ 40 → ¬ (IsOpened (lines_of bytes)) → (code_of e ≡ 3) ⊎ (code_of e ≡ 9)
+  refuses_at : (e : Ending) (bytes : List ℕ) → Ran e (Some bytes) left_now written written_now
+      → TellsFault (e ≡ ending.ReadFault) reads reads_now → TellsFault (e ≡ ending.WriteFault) writes writes_now
+      → ¬ Rose reads reads_now → ¬ Rose writes writes_now → length bytes < INPUT_LIMIT → ¬ (IsOpened (lines_of bytes)) → (code_of e ≡ 3) ⊎ (code_of e ≡ 9)
   unfolding code_of
-  refuses_at ending.Done bytes done read write limit no_read no_write short closed = absurd (closed (finished_opened bytes left_now written written_now (done refl)))
-  refuses_at ending.NotOpened bytes done read write limit no_read no_write short closed = inl refl
-  refuses_at ending.ReadFault bytes done read write limit no_read no_write short closed = absurd (no_read (read refl))
-  refuses_at ending.WriteFault bytes done read write limit no_read no_write short closed = absurd (no_write (write refl))
-  refuses_at ending.OutOfMemory bytes done read write limit no_read no_write short closed = inr refl
-  refuses_at ending.InputLimit bytes done read write limit no_read no_write short closed = absurd (past_limit bytes (limit refl) short)
+  refuses_at ending.Done bytes ran read write no_read no_write short closed = absurd (closed (finished_opened bytes left_now written written_now ran))
+  refuses_at ending.NotOpened bytes ran read write no_read no_write short closed = inl refl
+  refuses_at ending.ReadFault bytes ran read write no_read no_write short closed = absurd (no_read (read.rose refl))
+  refuses_at ending.WriteFault bytes ran read write no_read no_write short closed = absurd (no_write (write.rose refl))
+  refuses_at ending.OutOfMemory bytes ran read write no_read no_write short closed = inr refl
+  refuses_at ending.InputLimit bytes ran read write no_read no_write short closed = absurd (past_limit bytes ran short)
 
-  -- and one whose input opens nothing is refused, or ends for want of memory
-  pub refuses : (e : Ending) (left : Option (List ℕ)) → (e ≡ ending.Done → RanToEnd left left_now written written_now)
-      → (e ≡ ending.ReadFault → Rose reads reads_now) → (e ≡ ending.WriteFault → Rose writes writes_now)
-      → (e ≡ ending.InputLimit → (stopped : StoppedBetween left left_now written written_now) × (length stopped.taken ≡ 2 ^ 40))
+  -- and one whose input opens nothing is refused, or ends out of memory
+  pub refuses : (e : Ending) (left : Option (List ℕ)) → Ran e left left_now written written_now
+      → TellsFault (e ≡ ending.ReadFault) reads reads_now → TellsFault (e ≡ ending.WriteFault) writes writes_now
       → ¬ Rose reads reads_now → ¬ Rose writes writes_now
-      → IfSome left (λ bytes. length bytes < 2 ^ 40 → ¬ (IsOpened (lines_of bytes)) → (code_of e ≡ 3) ⊎ (code_of e ≡ 9))
-  refuses e None done read write limit no_read no_write = tt
-  refuses e (Some bytes) done read write limit no_read no_write = λ short closed. refuses_at e bytes done read write limit no_read no_write short closed
+      → IfSome left (λ bytes. length bytes < INPUT_LIMIT → ¬ (IsOpened (lines_of bytes)) → (code_of e ≡ 3) ⊎ (code_of e ≡ 9))
+  refuses e None ran read write no_read no_write = tt
+  refuses e (Some bytes) ran read write no_read no_write = λ short closed. refuses_at e bytes ran read write no_read no_write short closed

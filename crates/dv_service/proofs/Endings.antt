@@ -1,32 +1,7 @@
 use Rattle.std.proofs.Common.{◌≡◌, ℕ, refl, arith}
-use Rattle.dv_service.specs.declared.run.Turn.TheVariants.{Took, Stopped}
-use Rattle.dv_service.specs.Statuses.{code_of, ending_of}
+use Rattle.dv_service.specs.Statuses.{code_of}
 use Rattle.dv_service.specs.declared.status.Ending.{Ending}
 use Rattle.dv_service.specs.declared.status.Ending.TheVariants as ending
-use Rattle.dv_service.specs.declared.status.Stop.{Stop}
-use Rattle.dv_service.specs.declared.status.Stop.TheVariants as stop
-
--- which stop makes an ending
-pub ending_of-NotOpened : (s : Stop) → ending_of s ≡ ending.NotOpened → s ≡ stop.NotOpened
-ending_of-NotOpened stop.NotOpened is = refl
-ending_of-NotOpened stop.WriteFault is = absurd (cc)
-ending_of-NotOpened stop.OutOfMemory is = absurd (cc)
-
-pub ending_of-WriteFault : (s : Stop) → ending_of s ≡ ending.WriteFault → s ≡ stop.WriteFault
-ending_of-WriteFault stop.NotOpened is = absurd (cc)
-ending_of-WriteFault stop.WriteFault is = refl
-ending_of-WriteFault stop.OutOfMemory is = absurd (cc)
-
-pub ending_of-OutOfMemory : (s : Stop) → ending_of s ≡ ending.OutOfMemory → s ≡ stop.OutOfMemory
-ending_of-OutOfMemory stop.NotOpened is = absurd (cc)
-ending_of-OutOfMemory stop.WriteFault is = absurd (cc)
-ending_of-OutOfMemory stop.OutOfMemory is = refl
-
-pub Stopped-injective : (a b : Stop) → Stopped a ≡ Stopped b → a ≡ b
-Stopped-injective a b is = cc
-
-pub Took-injective : (a b : ℕ) → Took a ≡ Took b → a ≡ b
-Took-injective a b is = cc
 
 -- which ending a status tells
 pub code_of-0 : (e : Ending) → code_of e ≡ 0 → e ≡ ending.Done
@@ -91,3 +66,12 @@ code_of-other ending.ReadFault is = omega arith
 code_of-other ending.WriteFault is = omega arith
 code_of-other ending.OutOfMemory is = omega arith
 code_of-other ending.InputLimit is = omega arith
+
+-- and which status tells an ending
+pub ReadFault-code : (e : Ending) → e ≡ ending.ReadFault → code_of e ≡ 5
+unfolding code_of
+ReadFault-code e is = rw is refl
+
+pub WriteFault-code : (e : Ending) → e ≡ ending.WriteFault → code_of e ≡ 6
+unfolding code_of
+WriteFault-code e is = rw is refl

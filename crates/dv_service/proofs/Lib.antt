@@ -4,6 +4,7 @@ pub mod Each
 pub mod Endings
 pub mod Held
 pub mod Inputs
+pub mod Leaving
 pub mod Refused
 pub mod Results
 pub mod Runs
@@ -11,3 +12,5 @@ pub mod Selecting
 pub mod Splitting
 pub mod Steps
 pub mod Streams
+pub mod Telling
+pub mod Turning

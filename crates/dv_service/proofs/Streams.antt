@@ -1,10 +1,7 @@
 use Rattle.std.proofs.Common.{◌≡◌, ℕ, ◌+◌, ◌<◌, ◌≤◌, ◌==◌, List, [], ◌∷◌, ◌++◌, filter, length, take, drop, get_or, Option, None, true, false, refl, sym, ◌∙◌, ap, subst, append_assoc}
-use Rattle.std.specs.Io.KnownBytes.{append_known}
 use Rattle.std.proofs.lemmas.Bool.{ne_eqb}
 use Rattle.std.proofs.lemmas.List.{append-nil, take_more, take_all, take-append-drop}
 use Rattle.dv_service.specs.Lines.{line_feed, has_content, ended_lines, open_line, lines_of}
-use Rattle.dv_service.specs.Definitions.{opening_of}
-use Rattle.dv_service.specs.Replies.{reply_line, bad_definition}
 use Rattle.dv_service.specs.Outcome.{Answered, CutIn}
 use Rattle.dv_service.specs.Sessions.{IsHeld, Stands, IsRefused}
 use Rattle.dv_service.specs.declared.session.Session.{Session}
@@ -47,17 +44,6 @@ Stands-byte session taken b before now other held answered =
     let is_other : (b == line_feed) ≡ false = ne_eqb b line_feed other in
     record { line = rw (open_line-byte taken b is_other) held; answered = rw (ended_lines-byte taken b is_other) answered }
 
--- a first line that is refused as it ends
-pub IsRefused-feed : (taken line : List ℕ) (b : ℕ) (before now : Option (List ℕ)) → b ≡ line_feed → lines_of taken ≡ line ∷ [] → opening_of line ≡ None
-    → now ≡ append_known before (reply_line bad_definition) → IsRefused (taken ++ b ∷ []) before now
-IsRefused-feed taken line b before now feed only bad wrote = record {
-  line = line;
-  others = [];
-  first = rw feed (ended_lines-feed taken ∙ only);
-  bad = bad;
-  wrote = wrote;
-}
-
 -- a cut in the line that a line feed ends
 pub CutIn-feed : (taken : List ℕ) (b : ℕ) (before now : Option (List ℕ)) → b ≡ line_feed → CutIn (lines_of taken) before now → CutIn (ended_lines (taken ++ b ∷ [])) before now
 CutIn-feed taken b before now feed cut = rw (feed, ended_lines-feed taken) cut
@@ -80,7 +66,7 @@ rest_of taken piece i h = rw (next_byte taken piece i h, append_assoc, take-appe
 
 -- a refusal within a piece stands for the piece
 pub IsRefused-within : (taken piece : List ℕ) (i : ℕ) (before now : Option (List ℕ)) → i < length piece
-    → IsRefused ((taken ++ take i piece) ++ get_or piece i 0 ∷ []) before now → IsRefused (taken ++ piece) before now
+    → IsRefused (ended_lines ((taken ++ take i piece) ++ get_or piece i 0 ∷ [])) before now → IsRefused (ended_lines (taken ++ piece)) before now
 IsRefused-within taken piece i before now h refused =
     let grown = ended_lines-append ((taken ++ take i piece) ++ get_or piece i 0 ∷ []) (drop (i + 1) piece) in
     record {

@@ -7,6 +7,8 @@ use Rattle.serde_json.specs.Data.{Data}
 use Rattle.dv_value.specs.Json.{json_of}
 use Rattle.dv_service.specs.Lines.{within_limit}
 use Rattle.dv_service.specs.Members.{has_members, has_word, id_at, text_at, number_at, list_at, each_of}
+use Rattle.dv_service.specs.declared.naming.TheConstants.{LONGEST_NAME}
+use Rattle.dv_service.specs.declared.opening.TheConstants.{LONGEST_TEXT, MOST_COLUMNS}
 use Rattle.dv_service.specs.declared.definition.Column.{Column}
 use Rattle.dv_service.specs.declared.definition.Definition.{Definition}
 
@@ -22,9 +24,9 @@ abbrev pub begins_with_letter : List ℕ → Bool
 begins_with_letter [] = false
 begins_with_letter (c ∷ cs) = is_letter c
 
--- a name is a letter and then letters, digits or `_`, at most 50 characters in all
+-- a name is a letter and then letters, digits or `_`, and isn't too long
 unfoldable pub is_name : List ℕ → Bool
-is_name name = begins_with_letter name && list_all is_word_part name && nat_le (length name) 50
+is_name name = begins_with_letter name && list_all is_word_part name && nat_le (length name) LONGEST_NAME
 
 -- the bytes are the name of a row's id, or of who made or changed it and when
 abbrev pub is_stamp_name : List ℕ → Bool
@@ -37,7 +39,7 @@ is_system_name name =
 
 -- a column's name and its most characters are good
 unfoldable pub is_sound_column : List ℕ → ℕ → Bool
-is_sound_column name most = is_name name && not (is_system_name name) && nat_le 1 most && nat_le most 2000
+is_sound_column name most = is_name name && not (is_system_name name) && nat_le 1 most && nat_le most LONGEST_TEXT
 
 -- a text column: exactly `name`, `type` and `max`
 unfoldable pub column_of : Data → Option Column
@@ -52,9 +54,9 @@ unfoldable pub has_distinct_names : List Column → Bool
 has_distinct_names [] = true
 has_distinct_names (column ∷ columns) = not (list_any (λ other. bytes_eq other.name column.name) columns) && has_distinct_names columns
 
--- the columns of a table: at most 60, each under its own name
+-- the columns of a table: not too many, each under its own name
 unfoldable pub are_sound_columns : List Column → Bool
-are_sound_columns columns = nat_le (length columns) 60 && has_distinct_names columns
+are_sound_columns columns = nat_le (length columns) MOST_COLUMNS && has_distinct_names columns
 
 -- a user-owned table: exactly `name`, `owned` and `columns`
 unfoldable pub table_of : Data → Option (List ℕ × List Column)

@@ -8,4 +8,5 @@ pub mod Showing
 pub mod Machine
 pub mod Outcome
 pub mod Sessions
+pub mod Turns
 pub mod Statuses

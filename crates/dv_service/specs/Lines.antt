@@ -2,6 +2,7 @@
 -- A piece of spaces, tabs and carriage returns alone is no line, however long it is.
 use Rattle.std.specs.Prelude.{ℕ, ◌==◌, ◌||◌, List, [], ◌∷◌, ◌++◌, Bool, not, filter, Option, Some, None, length, nat_le, if◌then◌else◌}
 use Rattle.std.specs.List.{list_all}
+use Rattle.dv_service.specs.declared.line_buffer.TheConstants.{LINE_LIMIT}
 
 abbrev pub line_feed : ℕ
 line_feed = 10
@@ -36,6 +37,6 @@ open_line bytes = (split_of bytes).1
 abbrev pub lines_of : List ℕ → List (List ℕ)
 lines_of bytes = ended_lines bytes ++ filter has_content (open_line bytes ∷ [])
 
--- the line, unless it has more than 1,048,576 bytes
+-- the line, unless it is longer than the lines that are read
 unfoldable pub within_limit : List ℕ → Option (List ℕ)
-within_limit line = if nat_le (length line) 1048576 then Some line else None
+within_limit line = if nat_le (length line) LINE_LIMIT then Some line else None

@@ -14,7 +14,11 @@ use Rattle.dv_service.specs.declared.reply.Reply.TheVariants.{Opened, Refused}
 abbrev pub begin : Definition → Org
 begin definition = record { definition = definition; store = nothing }
 
--- A line gets its answer, or for want of memory a refusal that changes nothing.
+-- The organisation and the text are those of an outcome: the organisation after it, and the line of its reply.
+abbrev pub Gives : Org × Reply → Org → List ℕ → Type 0
+Gives outcome org text = (reply : Reply) × ((org, reply) ≡ outcome) × (text ≡ reply_line reply)
+
+-- A line gets its answer, or where memory runs out a refusal that changes nothing.
 abbrev pub Served : Org → List ℕ → Reply → Org → Type 0
 Served org line reply new = ((new, reply) ≡ answer org line) ⊎ ((new ≡ org) × (reply ≡ Refused OutOfMemory))
 

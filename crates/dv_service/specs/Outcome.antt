@@ -1,7 +1,7 @@
 -- What a run has done when it ends, by its status: which lines were answered, and what was written.
 -- `left` is what the source still has, `written` what the sink has taken; both are said where the object tells them.
 use Rattle.std.specs.declared.alloc.Global.{Global}
-use Rattle.std.specs.Prelude.{map, codes, String, string_bytes, ◌≡◌, ◌⊎◌, ◌<◌, ◌≤◌, ◌^◌, ℕ, List, [], ◌∷◌, ◌++◌, length, Option, None, Some}
+use Rattle.std.specs.Prelude.{map, codes, String, string_bytes, ◌≡◌, ◌⊎◌, ◌<◌, ◌≤◌, ℕ, List, [], ◌∷◌, ◌++◌, length, Option, None, Some}
 use Rattle.std.specs.Io.KnownBytes.{append_known, prepend_known, IsAtEnd}
 use Rattle.dv_base.specs.Sink.{IsCut}
 use Rattle.dv_service.specs.Lines.{ended_lines, lines_of}
@@ -10,6 +10,9 @@ use Rattle.dv_service.specs.Replies.{reply_line, printed, bad_definition}
 use Rattle.dv_service.specs.Machine.{Run, Writes}
 use Rattle.dv_service.specs.declared.definition.Definition.{Definition}
 use Rattle.dv_service.specs.declared.org.Org.{Org}
+use Rattle.dv_service.specs.declared.run.TheConstants.{INPUT_LIMIT}
+use Rattle.dv_service.specs.declared.status.Ending.{Ending}
+use Rattle.dv_service.specs.declared.status.Ending.TheVariants as ending
 use Rattle.dv_service.specs.declared.reply.Reply.{Reply}
 
 -- the words are `run` alone
@@ -27,19 +30,19 @@ pub record RanToEnd (left left_now written written_now : Option (List ℕ)) : Ty
   pub input : List ℕ
   pub took : left ≡ prepend_known input left_now
   pub at_end : IsAtEnd left_now
-  pub short : length input < 2 ^ 40
+  pub short : length input < INPUT_LIMIT
   pub org : Org
   pub answered : Answered (lines_of input) (Some org) written written_now
 
 -- the lines that ended in these bytes; the end of the input ends the last line too
 abbrev pub HaveEnded : List (List ℕ) → List ℕ → Option (List ℕ) → Type 0
-HaveEnded lines taken left_now = ((lines ≡ ended_lines taken) × (length taken ≤ 2 ^ 40)) ⊎ ((lines ≡ lines_of taken) × IsAtEnd left_now × (length taken < 2 ^ 40))
+HaveEnded lines taken left_now = ((lines ≡ ended_lines taken) × (length taken ≤ INPUT_LIMIT)) ⊎ ((lines ≡ lines_of taken) × IsAtEnd left_now × (length taken < INPUT_LIMIT))
 
 -- The input was read to its end and has no line, and nothing was written.
 pub record EndsUnopened (taken : List ℕ) (left_now written written_now : Option (List ℕ)) : Type 0 where
   pub none : lines_of taken ≡ []
   pub at_end : IsAtEnd left_now
-  pub short : length taken < 2 ^ 40
+  pub short : length taken < INPUT_LIMIT
   pub wrote : written_now ≡ written
 
 -- The first line that ended is no definition, and its refusal was written.
@@ -58,12 +61,22 @@ pub record NotOpened (left left_now written written_now : Option (List ℕ)) : T
   pub took : left ≡ prepend_known taken left_now
   pub how : EndsUnopened taken left_now written written_now ⊎ RefusesFirst taken left_now written written_now
 
--- Statuses 5 and 10: some bytes were taken, and the lines that ended in them were answered.
+-- At a fault of the input or at the limit: some bytes were taken, and the lines that ended in them were answered.
 pub record StoppedBetween (left left_now written written_now : Option (List ℕ)) : Type 0 where
   pub taken : List ℕ
   pub took : left ≡ prepend_known taken left_now
   pub org : Option Org
   pub answered : Answered (ended_lines taken) org written written_now
+
+-- Status 5: fewer bytes were taken than a run takes.
+abbrev pub StoppedBelowLimit : Option (List ℕ) → Option (List ℕ) → Option (List ℕ) → Option (List ℕ) → Type 0
+StoppedBelowLimit left left_now written written_now =
+    (stopped : StoppedBetween left left_now written written_now) × (length stopped.taken < INPUT_LIMIT)
+
+-- Status 10: as many bytes were taken as a run takes.
+abbrev pub StoppedAtLimit : Option (List ℕ) → Option (List ℕ) → Option (List ℕ) → Option (List ℕ) → Type 0
+StoppedAtLimit left left_now written written_now =
+    (stopped : StoppedBetween left left_now written written_now) × (length stopped.taken ≡ INPUT_LIMIT)
 
 -- Lines are answered up to one of them, of whose reply only a front was written.
 pub record CutIn (lines : List (List ℕ)) (written written_now : Option (List ℕ)) : Type 0 where
@@ -86,7 +99,16 @@ pub record CutShort (left left_now written written_now : Option (List ℕ)) : Ty
   pub ended : HaveEnded lines taken left_now
   pub cut : CutIn lines written written_now
 
--- whether the first line is a definition
+-- Whether the first line is a definition.
 abbrev pub IsOpened : List (List ℕ) → Type 0
 IsOpened [] = ⊥
 IsOpened (line ∷ lines) = (definition : Definition) × (opening_of line ≡ Some definition)
+
+-- What a run has done, by its ending.
+abbrev pub Ran : Ending → Option (List ℕ) → Option (List ℕ) → Option (List ℕ) → Option (List ℕ) → Type 0
+Ran ending.Done left left_now written written_now = RanToEnd left left_now written written_now
+Ran ending.NotOpened left left_now written written_now = NotOpened left left_now written written_now
+Ran ending.ReadFault left left_now written written_now = StoppedBelowLimit left left_now written written_now
+Ran ending.WriteFault left left_now written written_now = CutShort left left_now written written_now
+Ran ending.OutOfMemory left left_now written written_now = written_now ≡ written
+Ran ending.InputLimit left left_now written written_now = StoppedAtLimit left left_now written written_now

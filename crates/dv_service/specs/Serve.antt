@@ -18,6 +18,7 @@ use Rattle.dv_service.specs.Lines.{within_limit}
 use Rattle.dv_service.specs.Requests.{request_of}
 use Rattle.dv_service.specs.declared.definition.Column.{Column}
 use Rattle.dv_service.specs.declared.org.Org.{Org}
+use Rattle.dv_service.specs.declared.serving.TheConstants.{ROW_LIMIT}
 use Rattle.dv_service.specs.declared.reply.Cell.{Cell}
 use Rattle.dv_service.specs.declared.reply.Shown.{Shown}
 use Rattle.dv_service.specs.declared.reply.Reply.{Reply}
@@ -48,7 +49,7 @@ is_for columns (Query names) = list_all (is_column columns) names
 
 -- a creation that would make row 5,001
 unfoldable pub is_past_limit : List Row → Message → Bool
-is_past_limit rows (Create values) = nat_le 5000 (length rows)
+is_past_limit rows (Create values) = nat_le ROW_LIMIT (length rows)
 is_past_limit rows (Query names) = false
 
 -- whether the service is built as far as this request wants

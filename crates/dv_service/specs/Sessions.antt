@@ -1,18 +1,22 @@
--- Where a session stands between two bytes of its input.
-use Rattle.std.specs.Prelude.{◌≡◌, ◌≤◌, ℕ, List, ◌∷◌, Option, None, Result, IsErrOf, take}
+-- Where a session stands between two bytes of its input, and how a call leaves it.
+use Rattle.std.specs.Prelude.{◌≡◌, ℕ, List, [], ◌∷◌, ◌++◌, Option, Some, None, Result, Ok, Err, IsErrOf, take}
 use Rattle.std.specs.Io.KnownBytes.{append_known}
 use Rattle.dv_base.specs.Faults.{Rose}
-use Rattle.dv_service.specs.Lines.{has_content, ended_lines, open_line}
+use Rattle.dv_base.specs.Sink.{IsCut}
+use Rattle.dv_service.specs.Lines.{has_content, ended_lines, open_line, lines_of}
 use Rattle.dv_service.specs.Definitions.{opening_of}
+use Rattle.dv_service.specs.Machine.{Step, Writes}
 use Rattle.dv_service.specs.Replies.{reply_line, bad_definition}
-use Rattle.dv_service.specs.Outcome.{Answered}
+use Rattle.dv_service.specs.Outcome.{Answered, CutIn}
 use Rattle.dv_service.specs.declared.line_buffer.TheConstants.{ROOM}
 use Rattle.dv_service.specs.declared.line_buffer.LineBuffer.{LineBuffer}
+use Rattle.dv_service.specs.declared.org.Org.{Org}
+use Rattle.dv_service.specs.declared.reply.Reply.{Reply}
 use Rattle.dv_service.specs.declared.session.Session.{Session}
 use Rattle.dv_service.specs.declared.status.Stop.{Stop}
-use Rattle.dv_service.specs.declared.status.Stop.TheVariants.{WriteFault}
+use Rattle.dv_service.specs.declared.status.Stop.TheVariants.{NotOpened, WriteFault, OutOfMemory}
 
--- as much of a line as is held
+-- As much of a line as is held.
 unfoldable pub front_of : List ℕ → List ℕ
 front_of line = take ROOM line
 
@@ -26,15 +30,59 @@ pub record Stands (session : Session) (taken : List ℕ) (before now : Option (L
   pub line : IsHeld session.line (open_line taken)
   pub answered : Answered (ended_lines taken) session.org before now
 
--- The first line that ended in the bytes is no definition, and its refusal was written.
-pub record IsRefused (bytes : List ℕ) (before now : Option (List ℕ)) : Type 0 where
+-- The first of the lines is no definition, and its refusal was written.
+pub record IsRefused (lines : List (List ℕ)) (before now : Option (List ℕ)) : Type 0 where
   pub line : List ℕ
   pub others : List (List ℕ)
-  pub first : ended_lines bytes ≡ line ∷ others
+  pub first : lines ≡ line ∷ others
   pub bad : opening_of line ≡ None
   pub wrote : now ≡ append_known before (reply_line bad_definition)
 
--- A fault of the sink is told only where its count rose, and the count doesn't fall.
-pub record HasSinkCause {T : Type 0} (before now : ℕ) (result : Result T Stop) : Type 0 where
-  pub later : before ≤ now
-  pub failed : IsErrOf result WriteFault → Rose before now
+-- What writing a text leaves: it was written whole, or it was cut by a fault of the output.
+abbrev pub Wrote : {T : Type 0} → Result T Stop → List ℕ → Option (List ℕ) → Option (List ℕ) → Type 0
+Wrote (Ok value) text before now = now ≡ append_known before text
+Wrote (Err WriteFault) text before now = IsCut text before now
+Wrote (Err NotOpened) text before now = ⊥
+Wrote (Err OutOfMemory) text before now = ⊥
+
+-- What answering one line leaves: its reply was written and the organisation made its step; or the first line was
+-- refused; or what is written for the line was cut; or memory ran out before anything was answered.
+abbrev pub AnswersLine : {T : Type 0} → Result T Stop → Option Org → List ℕ → Option Org → Option (List ℕ) → Option (List ℕ) → Type 0
+AnswersLine (Ok value) old line new before now =
+    (reply : Reply) × (next : Org) × (new ≡ Some next) × Step old line reply next × (now ≡ append_known before (reply_line reply))
+AnswersLine (Err NotOpened) old line new before now =
+    (old ≡ None) × (opening_of line ≡ None) × (now ≡ append_known before (reply_line bad_definition))
+AnswersLine (Err WriteFault) old line new before now = (text : List ℕ) × Writes old line text × IsCut text before now
+AnswersLine (Err OutOfMemory) old line new before now = (old ≡ None) × (now ≡ before)
+
+-- Whatever line the buffer holds, answering it leaves that.
+abbrev pub AnswersHeld : {T : Type 0} → Result T Stop → LineBuffer → Option Org → Option Org → Option (List ℕ) → Option (List ℕ) → Type 0
+AnswersHeld result buffer old new before now =
+    (line : List ℕ) → IsHeld buffer line → AnswersLine result old line new before now
+
+-- How a call left the session where these lines have ended so far: they were answered, and it stood as said; or the
+-- first was refused; or the reply to one was cut; or memory ran out and nothing was written.
+abbrev pub Leaves : {T : Type 0} → Result T Stop → Type 0 → List (List ℕ) → Option (List ℕ) → Option (List ℕ) → Type 0
+Leaves (Ok value) stood lines before now = stood
+Leaves (Err NotOpened) stood lines before now = IsRefused lines before now
+Leaves (Err WriteFault) stood lines before now = CutIn lines before now
+Leaves (Err OutOfMemory) stood lines before now = now ≡ before
+
+-- Wherever the session stood, the call took this piece of the input, and stands behind it where it was an `Ok`.
+abbrev pub Takes : {T : Type 0} → Result T Stop → Session → List ℕ → Session → Option (List ℕ) → Option (List ℕ) → Type 0
+Takes result old piece new written now = (taken : List ℕ) (before : Option (List ℕ)) → Stands old taken before written
+    → Leaves result (Stands new (taken ++ piece) before now) (ended_lines (taken ++ piece)) before now
+
+-- Wherever the session stood, the call ended the open line, and holds an empty one where it was an `Ok`.
+abbrev pub EndsLine : {T : Type 0} → Result T Stop → Session → Session → Option (List ℕ) → Option (List ℕ) → Type 0
+EndsLine result old new written now = (taken : List ℕ) (before : Option (List ℕ)) → Stands old taken before written
+    → Leaves result (IsHeld new.line [] × Answered (lines_of taken) new.org before now) (lines_of taken) before now
+
+-- The count of faults rose where a fault was told, and stands as before where none was.
+pub record TellsFault (told : Type 0) (before now : ℕ) : Type 0 where
+  pub rose : told → Rose before now
+  pub steady : ¬ told → now ≡ before
+
+-- The sink's count rose where a fault of the sink was told, and else stands as before.
+abbrev pub TellsWriteFault : {T : Type 0} → Result T Stop → ℕ → ℕ → Type 0
+TellsWriteFault result before now = TellsFault (IsErrOf result WriteFault) before now

@@ -1,3 +1,4 @@
+//! The definition that the service serves today.
 use dv_value::{Id, Text};
 use sqlite_items::Items;
 

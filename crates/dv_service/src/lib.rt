@@ -2,7 +2,7 @@
 //!
 //! The layer above may rest on the clauses of [`top`]: by the status that it answers they say which lines of the input
 //! were answered and what was written, over the whole input and however reads cut it. The answer to a line is that of
-//! the machine of `specs/Serve` and `specs/Machine`, or want of memory, which changes nothing.
+//! the machine of `specs/Serve` and `specs/Machine`, or that memory ran out, which changes nothing.
 #![tactic(auto)]
 
 mod definition;

@@ -1,3 +1,4 @@
+//! The front of the line that has not ended yet.
 ghost use Rattle.std.specs.Prelude.{◌≤◌, vec_capacity};
 ghost use Rattle.dv_service.specs.declared.line_buffer.TheConstants.{ROOM};
 
@@ -50,7 +51,8 @@ impl LineBuffer {
 
     /// The line, unless it is above the limit.
     pub fn line(&self) -> Option<&[u8]>
-        ensures { (line : List ℕ) → IsHeld self.now line → option_map (λ held. held.now) result ≡ within_limit line }
+        ensures { (line : List ℕ) → IsHeld self.now line
+            → option_map (λ held. held.now) result ≡ within_limit line }
     {
         let front = self.bytes.as_slice();
         if front.len() <= LINE_LIMIT {

@@ -60,7 +60,8 @@ pub fn number_member(json: &Json, name: &str) -> Option<u64>
 /// The list at a name.
 #[tactic(auto, unfolding(crate::specs::Members::list_at))]
 pub fn list_member<'a>(json: &'a Json, name: &str) -> Option<&'a Vec<Json>>
-    ensures { option_map (λ items. list_of (items_view items.now.items)) result ≡ list_at name.now (view json.now) }
+    ensures { option_map (λ items. list_of (items_view items.now.items)) result
+        ≡ list_at name.now (view json.now) }
 {
     json.get(name)?.as_array()
 }
@@ -78,7 +79,8 @@ pub fn values_member(alloc: Global, json: Json, name: &str) -> Result<Option<Val
 
 // The object at a name.
 fn take_object(json: Json, name: &str) -> Option<Map<String, Json>>
-    ensures { option_map (λ ms. members_view ms.entries) result ≡ option_and_then as_object (get name.now (view json)) }
+    ensures { option_map (λ ms. members_view ms.entries) result
+        ≡ option_and_then as_object (get name.now (view json)) }
 {
     match json {
         Json::Object(mut members) => object_in(take_member(&mut members, name)?),

@@ -5,6 +5,9 @@ ghost use Rattle.dv_service.specs.Definitions.{is_name, is_letter, is_word_part,
 
 use dv_value::Text;
 
+/// The most characters of a name.
+pub const LONGEST_NAME: usize = 50;
+
 fn is_letter_char(c: char) -> bool
     ensures { result ≡ is_letter c }
 {
@@ -38,7 +41,7 @@ pub fn is_valid_name(name: &Text) -> bool
     ensures { result ≡ is_name name.now }
 {
     let text = name.as_str();
-    begins_well(text) && has_word_chars(text) && name.count() <= 50
+    begins_well(text) && has_word_chars(text) && name.count() <= LONGEST_NAME
 }
 
 /// Whether each user-owned table has a column of this name.

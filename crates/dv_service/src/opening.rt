@@ -15,11 +15,17 @@ use serde_json::Value as Json;
 use sqlite_items::Items;
 use std::alloc::{AllocError, Global};
 
+/// The most characters that a column may allow its texts.
+pub const LONGEST_TEXT: u64 = 2_000;
+
+/// The most columns of the table.
+pub const MOST_COLUMNS: usize = 60;
+
 #[tactic(auto, unfolding(crate::specs::Definitions::is_sound_column))]
 fn is_sound(name: &Text, max: u64) -> bool
     ensures { result ≡ is_sound_column name.now max }
 {
-    is_valid_name(name) && !is_reserved_name(name) && 1 <= max && max <= 2000
+    is_valid_name(name) && !is_reserved_name(name) && 1 <= max && max <= LONGEST_TEXT
 }
 
 #[tactic(auto, unfolding(crate::specs::Definitions::column_of))]
@@ -43,7 +49,8 @@ fn read_column(alloc: Global, json: &Json) -> Result<Option<Column>, AllocError>
 }
 
 fn read_columns(alloc: Global, items: &Vec<Json>) -> Result<Option<Items<Column>>, AllocError>
-    ensures { IfOk result (λ columns. columns ≡ each_of column_of (list_of (items_view items.now.items))) }
+    ensures { IfOk result (λ columns. columns
+        ≡ each_of column_of (list_of (items_view items.now.items))) }
 {
     let mut columns = Items::new(alloc);
     for item in items {
@@ -77,7 +84,7 @@ fn is_taken(columns: &[Column], name: &Text) -> bool
 fn are_sound(columns: &[Column]) -> bool
     ensures { result ≡ are_sound_columns columns.now }
 {
-    columns.len() <= 60 && are_distinct(columns)
+    columns.len() <= MOST_COLUMNS && are_distinct(columns)
 }
 
 #[tactic(auto, unfolding(crate::specs::Definitions::table_of))]
@@ -105,7 +112,8 @@ fn read_table(alloc: Global, json: &Json) -> Result<Option<(Text, Items<Column>)
 
 // The only table of a list.
 fn only_table(alloc: Global, list: &Vec<Json>) -> Result<Option<(Text, Items<Column>)>, AllocError>
-    ensures { IfOk result (λ table. table ≡ option_and_then table_of (only (list_of (items_view list.now.items)))) }
+    ensures { IfOk result (λ table. table
+        ≡ option_and_then table_of (only (list_of (items_view list.now.items)))) }
 {
     if list.len() == 1 {
         read_table(alloc, &list[0])

@@ -1,3 +1,4 @@
+//! The organisation.
 use crate::definition::Definition;
 use dv_store::Store;
 

@@ -25,7 +25,8 @@ fn add_cells(
     members: &mut Map<String, Json>,
     cells: &Items<Cell>,
 ) -> Result<(), AllocError>
-    ensures { OnOk result (members_view members.new.entries ≡ with_cells cells.now (members_view members.old.entries)) }
+    ensures { OnOk result (members_view members.new.entries
+        ≡ with_cells cells.now (members_view members.old.entries)) }
 {
     for cell in cells.as_slice() {
         let value = cell_json(alloc, &cell.text)?;
@@ -84,17 +85,17 @@ fn reply_json(alloc: Global, reply: &Reply) -> Result<Json, AllocError>
     match reply {
         Reply::Opened(tables) => {
             let tables = one_json(alloc, "tables", Json::from(*tables))?;
-            Ok(one_json(alloc, "ok", tables)?)
+            one_json(alloc, "ok", tables)
         }
         Reply::Created(id) => {
             let id = one_json(alloc, "id", Json::String(id.to_text(alloc)?))?;
-            Ok(one_json(alloc, "ok", id)?)
+            one_json(alloc, "ok", id)
         }
         Reply::Rows(rows) => {
             let page = page_json(alloc, rows_json(alloc, rows)?)?;
-            Ok(one_json(alloc, "ok", page)?)
+            one_json(alloc, "ok", page)
         }
-        Reply::Refused(refusal) => Ok(one_json(alloc, "refused", refusal.to_json(alloc)?)?),
+        Reply::Refused(refusal) => one_json(alloc, "refused", refusal.to_json(alloc)?),
     }
 }
 

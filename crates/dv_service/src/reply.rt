@@ -1,3 +1,4 @@
+//! Replies.
 use dv_refusal::Refusal;
 use dv_value::{Id, Text};
 use sqlite_items::Items;

@@ -1,3 +1,4 @@
+//! Requests that the service serves today.
 use dv_value::{Id, Names, Text, Values};
 
 /// What a request asks for.

@@ -1,9 +1,10 @@
 //! The public call: the words of the command line, the input and the output.
-ghost use Rattle.std.specs.Prelude.{◌≡◌, ◌↔◌, ◌<◌, ◌⊎◌, ◌^◌, IsTrue, IfSome, length, true};
+ghost use Rattle.std.specs.Prelude.{◌≡◌, ◌≢◌, ◌↔◌, ◌<◌, ◌⊎◌, IsTrue, IfSome, length, true};
 ghost use Rattle.dv_base.specs.Faults.{Rose};
 ghost use Rattle.dv_service.specs.Lines.{lines_of};
-ghost use Rattle.dv_service.specs.Outcome.{AreRun, RanToEnd, NotOpened, StoppedBetween, CutShort, IsOpened};
+ghost use Rattle.dv_service.specs.Outcome.{AreRun, RanToEnd, NotOpened, StoppedBelowLimit, StoppedAtLimit, CutShort, IsOpened};
 ghost use Rattle.dv_service.specs.Statuses.{is_status};
+ghost use Rattle.dv_service.specs.declared.run.TheConstants.{INPUT_LIMIT};
 
 use crate::run::run;
 use crate::status::Status;
@@ -44,31 +45,38 @@ pub fn top<S: Source, W: Sink>(
     // The input failed: the lines that ended in the bytes taken were answered.
     ensures read_fault { result.0 ≡ 5 → Rose (S.read_faults input.old) (S.read_faults input.new) }
     ensures read_stopped { result.0 ≡ 5
-        → (stopped : StoppedBetween (S.left input.old) (S.left input.new) (W.written output.old) (W.written output.new)) × (length stopped.taken < 2 ^ 40) }
+        → StoppedBelowLimit (S.left input.old) (S.left input.new) (W.written output.old) (W.written output.new) }
 
     // The output failed: one line's reply was cut short, and no later line was answered.
-    ensures write_fault { result.0 ≡ 6 → Rose (W.write_faults output.old) (W.write_faults output.new) }
+    ensures write_fault { result.0 ≡ 6
+        → Rose (W.write_faults output.old) (W.write_faults output.new) }
     ensures cut_short { result.0 ≡ 6
         → CutShort (S.left input.old) (S.left input.new) (W.written output.old) (W.written output.new) }
 
-    // Nothing was written: want of memory before anything was answered.
+    // The run ends at its first fault: whatever else ends it, no fault was counted.
+    ensures no_read_fault { result.0 ≢ 5 → S.read_faults input.new ≡ S.read_faults input.old }
+    ensures no_write_fault { result.0 ≢ 6 → W.write_faults output.new ≡ W.write_faults output.old }
+
+    // Nothing was written: memory ran out before anything was answered.
     ensures out_of_memory { result.0 ≡ 9 → W.written output.new ≡ W.written output.old }
 
     // As much input was taken as a run takes.
     ensures input_limit { result.0 ≡ 10
-        → (stopped : StoppedBetween (S.left input.old) (S.left input.new) (W.written output.old) (W.written output.new)) × (length stopped.taken ≡ 2 ^ 40) }
+        → StoppedAtLimit (S.left input.old) (S.left input.new) (W.written output.old) (W.written output.new) }
 
     // There is no other status.
     ensures known { is_status result.0 ≡ true }
 
     // An input below the limit is read to its end where its first line is a definition, and is refused where it has
-    // none, unless an end fails or memory is wanting.
+    // none, unless an end fails or memory runs out.
     ensures complete { AreRun words.now → ¬ Rose (S.read_faults input.old) (S.read_faults input.new)
         → ¬ Rose (W.write_faults output.old) (W.write_faults output.new)
-        → IfSome (S.left input.old) (λ bytes. length bytes < 2 ^ 40 → IsOpened (lines_of bytes) → (result.0 ≡ 0) ⊎ (result.0 ≡ 9)) }
+        → IfSome (S.left input.old) (λ bytes. length bytes < INPUT_LIMIT → IsOpened (lines_of bytes)
+        → (result.0 ≡ 0) ⊎ (result.0 ≡ 9)) }
     ensures refuses { AreRun words.now → ¬ Rose (S.read_faults input.old) (S.read_faults input.new)
         → ¬ Rose (W.write_faults output.old) (W.write_faults output.new)
-        → IfSome (S.left input.old) (λ bytes. length bytes < 2 ^ 40 → ¬ (IsOpened (lines_of bytes)) → (result.0 ≡ 3) ⊎ (result.0 ≡ 9)) }
+        → IfSome (S.left input.old) (λ bytes. length bytes < INPUT_LIMIT → ¬ (IsOpened (lines_of bytes))
+        → (result.0 ≡ 3) ⊎ (result.0 ≡ 9)) }
 {
     if is_run(words) {
         run(alloc, input, output).status()

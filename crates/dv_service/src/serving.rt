@@ -3,6 +3,7 @@ ghost use Rattle.std.specs.Prelude.{◌≡◌, ◌<◌, List, ℕ, Some, IfOk, O
 ghost use Rattle.std.specs.List.{list_all};
 ghost use Rattle.serde_json.specs.View.{view};
 ghost use Rattle.dv_service.specs.Lines.{within_limit};
+ghost use Rattle.dv_service.specs.Machine.{Gives};
 ghost use Rattle.dv_service.specs.Replies.{reply_line};
 ghost use Rattle.dv_service.specs.Serve.{is_column, suits, takes, is_for, is_past_limit, is_built, typed, row_values, effect, serve, object_of, answer};
 ghost use Rattle.dv_service.specs.declared.reply.Reply.{Reply as Answer};
@@ -130,8 +131,11 @@ fn typed_values(
 #[tactic(auto, unfolding(crate::specs::Serve::effect))]
 fn create(alloc: Global, org: &mut Org, caller: Id, values: &Values) -> Result<Vec<u8>, AllocError>
     requires { length org.old.store.rows < LIMIT }
-    ensures ok { IfOk result (λ text. (reply : Answer) × ((org.new, reply) ≡ effect org.old caller (Message.Create values.now)) × (text.items ≡ reply_line reply)) }
-    ensures refused { (refusal : Refused) → IfOk result (λ text. text.items ≡ reply_line (Answer.Refused refusal) → org.new ≡ org.old) }
+    ensures ok { IfOk result (λ text.
+        Gives (effect org.old caller (Message.Create values.now)) org.new text.items) }
+    ensures refused { (refusal : Refused)
+        → IfOk result (λ text. text.items ≡ reply_line (Answer.Refused refusal)
+        → org.new ≡ org.old) }
     ensures err { OnErr result (org.new ≡ org.old) }
 {
     let id = org.store.next_id();
@@ -144,7 +148,9 @@ fn create(alloc: Global, org: &mut Org, caller: Id, values: &Values) -> Result<V
 // Shows all rows.
 #[tactic(auto, unfolding(crate::specs::Serve::effect))]
 fn query(alloc: Global, org: &Org, names: &Names) -> Result<Vec<u8>, AllocError>
-    ensures { (caller : Id) → IfOk result (λ text. (reply : Answer) × ((org.now, reply) ≡ effect org.now caller (Message.Query names.now)) × (text.items ≡ reply_line reply)) }
+    ensures { (caller : Id)
+        → IfOk result (λ text.
+        Gives (effect org.now caller (Message.Query names.now)) org.now text.items) }
 {
     let rows = show_rows(
         alloc,
@@ -152,28 +158,30 @@ fn query(alloc: Global, org: &Org, names: &Names) -> Result<Vec<u8>, AllocError>
         names.as_slice(),
         org.store.rows(),
     )?;
-    Ok(reply_text(alloc, &Reply::Rows(rows))?)
+    reply_text(alloc, &Reply::Rows(rows))
 }
 
 // The line that tells a refusal.
 fn refuse(alloc: Global, refusal: Refusal) -> Result<Vec<u8>, AllocError>
     ensures { IfOk result (λ text. text.items ≡ reply_line (Reply.Refused refusal)) }
 {
-    Ok(reply_text(alloc, &Reply::Refused(refusal))?)
+    reply_text(alloc, &Reply::Refused(refusal))
 }
 
 // Serves a request.
 #[tactic(auto, unfolding(crate::specs::Serve::serve))]
 fn serve_request(alloc: Global, org: &mut Org, request: &Request) -> Result<Vec<u8>, AllocError>
-    ensures ok { IfOk result (λ text. (reply : Answer) × ((org.new, reply) ≡ serve org.old request.now) × (text.items ≡ reply_line reply)) }
-    ensures refused { (refusal : Refused) → IfOk result (λ text. text.items ≡ reply_line (Answer.Refused refusal) → org.new ≡ org.old) }
+    ensures ok { IfOk result (λ text. Gives (serve org.old request.now) org.new text.items) }
+    ensures refused { (refusal : Refused)
+        → IfOk result (λ text. text.items ≡ reply_line (Answer.Refused refusal)
+        → org.new ≡ org.old) }
     ensures err { OnErr result (org.new ≡ org.old) }
 {
     if !can_serve(org, request) {
-        return Ok(refuse(alloc, Refusal::NotBuilt)?);
+        return refuse(alloc, Refusal::NotBuilt);
     }
     if request.caller.0 != org.definition.admin.0 {
-        return Ok(refuse(alloc, Refusal::UnknownCaller)?);
+        return refuse(alloc, Refusal::UnknownCaller);
     }
     match &request.message {
         Message::Create(values) => create(alloc, org, request.caller, values),
@@ -211,11 +219,13 @@ fn read_line(alloc: Global, line: Option<&[u8]>) -> Result<Option<Json>, AllocEr
 }
 
 /// The reply's line to a line, and its effect. A line above the limit is given as `None`. A line that is refused leaves
-/// the organisation, and so does an `Err`, which is want of memory.
+/// the organisation as it was, and so does an `Err`, which is out of memory.
 pub fn serve_line(alloc: Global, org: &mut Org, line: Option<&[u8]>) -> Result<Vec<u8>, AllocError>
     ensures ok { (bytes : List ℕ) → option_map (λ held. held.now) line.entry ≡ within_limit bytes
-        → IfOk result (λ text. (reply : Answer) × ((org.new, reply) ≡ answer org.old bytes) × (text.items ≡ reply_line reply)) }
-    ensures refused { (refusal : Refused) → IfOk result (λ text. text.items ≡ reply_line (Answer.Refused refusal) → org.new ≡ org.old) }
+        → IfOk result (λ text. Gives (answer org.old bytes) org.new text.items) }
+    ensures refused { (refusal : Refused)
+        → IfOk result (λ text. text.items ≡ reply_line (Answer.Refused refusal)
+        → org.new ≡ org.old) }
     ensures err { OnErr result (org.new ≡ org.old) }
 {
     let Some(json) = read_line(alloc, line)? else {

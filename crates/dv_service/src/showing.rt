@@ -69,7 +69,8 @@ fn show_place(
     values: &[Value],
     place: Option<usize>,
 ) -> Result<Option<Text>, AllocError>
-    ensures { IfOk result (λ text. text ≡ shown_text (option_and_then (λ at. slice_get values.now at) place)) }
+    ensures { IfOk result (λ text. text
+        ≡ shown_text (option_and_then (λ at. slice_get values.now at) place)) }
 {
     let Some(place) = place else {
         return Ok(None);
@@ -106,7 +107,8 @@ fn show_cells(
 }
 
 fn show_row(alloc: Global, selected: &[Selected], row: &Row) -> Result<Shown, AllocError>
-    ensures { (columns : List Column) (names : List (List ℕ)) → selected.now ≡ map (selected_of columns) names
+    ensures { (columns : List Column) (names : List (List ℕ))
+        → selected.now ≡ map (selected_of columns) names
         → IfOk result (λ shown. shown ≡ shown_of columns names row.now) }
 {
     Ok(Shown {

@@ -1,16 +1,8 @@
+//! How a run ends, and the exit status that tells it.
 ghost use Rattle.std.specs.Prelude.{◌≡◌};
-ghost use Rattle.dv_service.specs.Statuses.{code_of};
+ghost use Rattle.dv_service.specs.Statuses.{code_of, ending_of};
 
-/// How the program ends: the status that its process exits with.
-///
-/// | Status | Comes |
-/// |---|---|
-/// | 0 | the input was read to its end |
-/// | 2 | the words aren't those of a command |
-/// | 3 | the input has no definition line, or its first line is no definition that is accepted |
-/// | 5, 6 | the input, the output failed |
-/// | 9 | there was no memory to begin |
-/// | 10 | 2^40 bytes of input were taken |
+/// How the program ends: the status that its process exits with. The clauses of `top` say when each comes.
 #[derive(Clone, Copy, Debug, PartialEq, Eq)]
 pub struct Status(pub u8);
 
@@ -67,5 +59,3 @@ impl Stop {
         }
     }
 }
-
-ghost use Rattle.dv_service.specs.Statuses.{ending_of};

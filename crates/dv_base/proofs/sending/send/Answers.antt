@@ -9,7 +9,7 @@ loop-sent-preserved g c = record {
   within = grind (arith, common_steps, length-drop);
   written = rw (c.in_ok-sent.ensures.taken, c.loop-sent.invariant.written, take_rest c.args.bytes.now c.loop-sent.sent)
       (append_known-parts (g.W.Ends.written c.args.output.now) c.loop-sent.sent c.in_ok-sent.field-0 c.args.bytes.now);
-  later = omega (arith, c.loop-sent.invariant.later, c.in_ok-sent.ensures.cause.later);
+  steady = rw (c.in_ok-sent.ensures.cause.steady, c.loop-sent.invariant.steady);
   left = rw (c.in_ok-sent.ensures.left, c.loop-sent.invariant.left);
   read_faults = rw (c.in_ok-sent.ensures.read_faults, c.loop-sent.invariant.read_faults);
 }

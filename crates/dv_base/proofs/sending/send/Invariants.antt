@@ -7,7 +7,7 @@ abbrev pub invariant-loop-sent : goal.invariant-loop-sent
 invariant-loop-sent g l = record {
   within : l.sent ≤ length l.bytes;
   written : g.W.Ends.written l.output ≡ append_known (g.W.Ends.written l.fn.output) (take l.sent l.bytes);
-  later : g.W.Ends.write_faults l.fn.output ≤ g.W.Ends.write_faults l.output;
+  steady : g.W.Ends.write_faults l.output ≡ g.W.Ends.write_faults l.fn.output;
   left : g.W.Ends.left l.output ≡ g.W.Ends.left l.fn.output;
   read_faults : g.W.Ends.read_faults l.output ≡ g.W.Ends.read_faults l.fn.output;
 }

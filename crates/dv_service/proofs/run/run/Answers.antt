@@ -1,13 +1,11 @@
-use Rattle.std.proofs.Common.{arith, refl, sym, ◌∙◌, ap, inl, inr, ◌++◌, [], length-append}
-use Rattle.std.specs.Io.KnownBytes.{prepend_known}
+use Rattle.std.proofs.Common.{arith, refl, sym, ◌∙◌, ◌++◌, [], length-append}
 use Rattle.std.proofs.lemmas.List.{length-take}
 use Rattle.dv_base.proofs.FaultLaws.{Rose-since}
 use Rattle.dv_base.proofs.KnownBytesLaws.{prepend_known-nil}
-use Rattle.dv_service.specs.Lines.{lines_of, ended_lines}
-use Rattle.dv_service.specs.declared.run.Turn.TheVariants.{Stopped}
-use Rattle.dv_service.proofs.Endings.{ending_of-NotOpened, ending_of-WriteFault, ending_of-OutOfMemory}
-use Rattle.dv_service.proofs.Inputs.{took_more, unopened_at_end}
+use Rattle.dv_service.proofs.Inputs.{took_more}
 use Rattle.dv_service.proofs.Streams.{Stands-none}
+use Rattle.dv_service.proofs.Telling.{TellsFault-told, TellsFault-none, TellsFault-since, TellsFault-stopped, Took-ReadFault, Took-Stopped, AtEnd-ReadFault, AtEnd-Stopped, ReadFault-Stopped, Stopped-ReadFault, fault-of-input, limit-read, limit-write}
+use Rattle.dv_service.proofs.Turning.{took_none, Ran-finished, Ran-stopped, Finished-ReadFault, ending_of-ReadFault}
 use Rattle.dv_service.proofs.run.run.Goals as goal
 
 pub loop-taken-init : goal.loop-taken-init
@@ -17,128 +15,89 @@ loop-taken-init g c = record {
   count = refl;
   within = omega arith;
   stands = Stands-none _ _ refl c.in-Ok.ensures;
-  read_later = omega arith;
-  write_later = omega arith;
+  reads = refl;
+  writes = refl;
 }
 
 pub loop-taken-preserved : goal.loop-taken-preserved
 loop-taken-preserved g c =
     let i = c.loop-taken.invariant in
-    let next = c.in-Took.ensures.took i.bytes _ i.stands c.in-Took.count refl in
+    let turn = c.in-Took.ensures.turned i.bytes _ i.stands in
     record {
-      bytes = i.bytes ++ next.0;
-      took = took_more _ _ _ i.bytes next.0 i.took next.1;
-      count = rw length-append (omega (arith, i.count, next.2));
+      bytes = i.bytes ++ turn.piece;
+      took = took_more _ _ _ i.bytes turn.piece i.took turn.took;
+      count = rw length-append (omega (arith, i.count, turn.how.0));
       within =
-          let most = c.in-Took.ensures.within c.in-Took.count refl in
+          let most = (c.in-Took.ensures.count c.in-Took.count refl).1 in
           omega (arith, i.within, c.loop-taken-test.true, simp length-take at most, c.min-room.ensures);
-      stands = next.3;
-      read_later = omega (arith, i.read_later, c.in-Took.ensures.read_later);
-      write_later = omega (arith, i.write_later, c.in-Took.ensures.write_later);
+      stands = turn.how.1;
+      reads = c.in-Took.ensures.read_fault.steady (Took-ReadFault _) ∙ i.reads;
+      writes = c.in-Took.ensures.write_fault.steady (Took-Stopped _ _) ∙ i.writes;
     }
 
-pub returns-in-AtEnd-clause-done : goal.returns-in-AtEnd-clause-done
-returns-in-AtEnd-clause-done g c = λ is.
+pub returns-in-AtEnd-clause-ran : goal.returns-in-AtEnd-clause-ran
+returns-in-AtEnd-clause-ran g c =
     let i = c.loop-taken.invariant in
-    let end = c.in-AtEnd.ensures.at_end i.bytes _ i.stands refl in
-    let done = c.finish.ensures.done i.bytes _ end.2 is in
-    record {
-      input = i.bytes;
-      took = i.took ∙ ap (prepend_known i.bytes) (sym end.0);
-      at_end = end.1;
-      short = omega (arith, i.count, c.loop-taken-test.true);
-      org = done.0;
-      answered = done.1;
-    }
+    let turn = c.in-AtEnd.ensures.turned i.bytes _ i.stands in
+    Ran-finished c.finish.result i.bytes _ _ _ _ (took_none _ _ _ i.bytes turn.piece i.took turn.took turn.how.0) turn.how.1
+    (omega (arith, i.count, c.loop-taken-test.true)) (c.finish.ensures.finished i.bytes _ turn.how.2)
 
-pub returns-in-AtEnd-clause-not_opened : goal.returns-in-AtEnd-clause-not_opened
-returns-in-AtEnd-clause-not_opened g c = λ is.
+pub returns-in-AtEnd-clause-read_fault : goal.returns-in-AtEnd-clause-read_fault
+returns-in-AtEnd-clause-read_fault g c =
     let i = c.loop-taken.invariant in
-    let end = c.in-AtEnd.ensures.at_end i.bytes _ i.stands refl in
-    record {
-      taken = i.bytes;
-      took = i.took ∙ ap (prepend_known i.bytes) (sym end.0);
-      how = unopened_at_end i.bytes _ _ _ end.1 (omega (arith, i.count, c.loop-taken-test.true)) (c.finish.ensures.not_opened i.bytes _ end.2 is);
-    }
+    let turn = c.in-AtEnd.ensures.turned i.bytes _ i.stands in
+    TellsFault-none _ _ _ (c.in-AtEnd.ensures.read_fault.steady AtEnd-ReadFault ∙ i.reads)
+    (Finished-ReadFault c.finish.result _ _ _ (c.finish.ensures.finished i.bytes _ turn.how.2))
 
-pub returns-in-AtEnd-clause-cut : goal.returns-in-AtEnd-clause-cut
-returns-in-AtEnd-clause-cut g c = λ is.
+pub returns-in-AtEnd-clause-write_fault : goal.returns-in-AtEnd-clause-write_fault
+returns-in-AtEnd-clause-write_fault g c =
+    TellsFault-since _ _ _ _ (c.in-AtEnd.ensures.write_fault.steady (AtEnd-Stopped _) ∙ c.loop-taken.invariant.writes) c.finish.ensures.write_fault
+
+pub returns-in-ReadFault-clause-ran : goal.returns-in-ReadFault-clause-ran
+returns-in-ReadFault-clause-ran g c =
     let i = c.loop-taken.invariant in
-    let end = c.in-AtEnd.ensures.at_end i.bytes _ i.stands refl in
-    record {
-      taken = i.bytes;
-      took = i.took ∙ ap (prepend_known i.bytes) (sym end.0);
-      lines = lines_of i.bytes;
-      ended = inr (refl, end.1, omega (arith, i.count, c.loop-taken-test.true));
-      cut = c.finish.ensures.cut i.bytes _ end.2 is;
-    }
-
-pub returns-in-AtEnd-clause-untouched : goal.returns-in-AtEnd-clause-untouched
-returns-in-AtEnd-clause-untouched g c = λ is.
-    let i = c.loop-taken.invariant in
-    let end = c.in-AtEnd.ensures.at_end i.bytes _ i.stands refl in
-    c.finish.ensures.untouched i.bytes _ end.2 is
-
-pub returns-in-AtEnd-clause-write : goal.returns-in-AtEnd-clause-write
-returns-in-AtEnd-clause-write g c = λ is.
-    Rose-since _ _ _ (omega (arith, c.loop-taken.invariant.write_later, c.in-AtEnd.ensures.write_later)) (c.finish.ensures.write is)
-
-pub returns-in-ReadFault-clause-read : goal.returns-in-ReadFault-clause-read
-returns-in-ReadFault-clause-read g c = λ is. Rose-since _ _ _ c.loop-taken.invariant.read_later (c.in-ReadFault.ensures.read refl)
-
-pub returns-in-ReadFault-clause-read_stopped : goal.returns-in-ReadFault-clause-read_stopped
-returns-in-ReadFault-clause-read_stopped g c = λ is.
-    let i = c.loop-taken.invariant in
-    let stood = c.in-ReadFault.ensures.faulted i.bytes _ i.stands refl in (
+    let turn = c.in-ReadFault.ensures.turned i.bytes _ i.stands in (
       record {
         taken = i.bytes;
-        took = i.took ∙ ap (prepend_known i.bytes) (sym stood.0);
+        took = took_none _ _ _ i.bytes turn.piece i.took turn.took turn.how.0;
         org = _;
-        answered = stood.1.answered;
+        answered = turn.how.1.answered;
       },
       omega (arith, i.count, c.loop-taken-test.true),
     )
 
-pub returns-in-Stopped-clause-not_opened : goal.returns-in-Stopped-clause-not_opened
-returns-in-Stopped-clause-not_opened g c = λ is.
+pub returns-in-ReadFault-clause-read_fault : goal.returns-in-ReadFault-clause-read_fault
+returns-in-ReadFault-clause-read_fault g c =
+    TellsFault-told _ _ _ (Rose-since _ _ _ c.loop-taken.invariant.reads (c.in-ReadFault.ensures.read_fault.rose refl)) refl
+
+pub returns-in-ReadFault-clause-write_fault : goal.returns-in-ReadFault-clause-write_fault
+returns-in-ReadFault-clause-write_fault g c =
+    TellsFault-none _ _ _ (c.in-ReadFault.ensures.write_fault.steady (ReadFault-Stopped _) ∙ c.loop-taken.invariant.writes) fault-of-input
+
+pub returns-in-Stopped-clause-ran : goal.returns-in-Stopped-clause-ran
+returns-in-Stopped-clause-ran g c =
     let i = c.loop-taken.invariant in
-    let refused = c.in-Stopped.ensures.refused i.bytes _ i.stands (ap Stopped (ending_of-NotOpened c.in-Stopped.stop (sym c.ending.ensures ∙ is))) in
-    record {
-      taken = i.bytes ++ refused.0;
-      took = took_more _ _ _ i.bytes refused.0 i.took refused.1;
-      how = inr (record {
-        lines = ended_lines (i.bytes ++ refused.0);
-        ended = inl (refl, rw length-append (omega (arith, i.count, c.loop-taken-test.true, simp length-take at refused.2, c.min-room.ensures)));
-        line = refused.3.line;
-        others = refused.3.others;
-        parts = refused.3.first;
-        bad = refused.3.bad;
-        wrote = refused.3.wrote;
-      });
-    }
+    let turn = c.in-Stopped.ensures.turned i.bytes _ i.stands in
+    let most = turn.within in
+    rw c.ending.ensures (Ran-stopped c.in-Stopped.stop _ (i.bytes ++ turn.piece) _ _ _ _ (took_more _ _ _ i.bytes turn.piece i.took turn.took)
+    (rw length-append (omega (arith, i.count, c.loop-taken-test.true, simp length-take at most, c.min-room.ensures))) turn.how)
 
-pub returns-in-Stopped-clause-cut : goal.returns-in-Stopped-clause-cut
-returns-in-Stopped-clause-cut g c = λ is.
-    let i = c.loop-taken.invariant in
-    let cut = c.in-Stopped.ensures.cut i.bytes _ i.stands (ap Stopped (ending_of-WriteFault c.in-Stopped.stop (sym c.ending.ensures ∙ is))) in
-    record {
-      taken = i.bytes ++ cut.0;
-      took = took_more _ _ _ i.bytes cut.0 i.took cut.1;
-      lines = ended_lines (i.bytes ++ cut.0);
-      ended = inl (refl, rw length-append (omega (arith, i.count, c.loop-taken-test.true, simp length-take at cut.2, c.min-room.ensures)));
-      cut = cut.3;
-    }
+pub returns-in-Stopped-clause-read_fault : goal.returns-in-Stopped-clause-read_fault
+returns-in-Stopped-clause-read_fault g c =
+    TellsFault-none _ _ _ (c.in-Stopped.ensures.read_fault.steady (Stopped-ReadFault _) ∙ c.loop-taken.invariant.reads)
+    (λ is. ending_of-ReadFault c.in-Stopped.stop (sym c.ending.ensures ∙ is))
 
-pub returns-in-Stopped-clause-untouched : goal.returns-in-Stopped-clause-untouched
-returns-in-Stopped-clause-untouched g c = λ is.
-    let i = c.loop-taken.invariant in
-    c.in-Stopped.ensures.untouched i.bytes _ i.stands (ap Stopped (ending_of-OutOfMemory c.in-Stopped.stop (sym c.ending.ensures ∙ is)))
+pub returns-in-Stopped-clause-write_fault : goal.returns-in-Stopped-clause-write_fault
+returns-in-Stopped-clause-write_fault g c =
+    TellsFault-since _ _ _ _ c.loop-taken.invariant.writes (TellsFault-stopped c.in-Stopped.stop _ _ _ c.ending.ensures c.in-Stopped.ensures.write_fault)
 
-pub returns-in-Stopped-clause-write : goal.returns-in-Stopped-clause-write
-returns-in-Stopped-clause-write g c = λ is.
-    Rose-since _ _ _ c.loop-taken.invariant.write_later (c.in-Stopped.ensures.write (ap Stopped (ending_of-WriteFault c.in-Stopped.stop (sym c.ending.ensures ∙ is))))
-
-pub returns-clause-limit_stopped : goal.returns-clause-limit_stopped
-returns-clause-limit_stopped g c = λ is.
+pub returns-clause-ran : goal.returns-clause-ran
+returns-clause-ran g c =
     let i = c.loop-taken.invariant in
     (record { taken = i.bytes; took = i.took; org = _; answered = i.stands.answered }, omega (arith, i.count, i.within, c.loop-taken-test.false))
+
+pub returns-clause-read_fault : goal.returns-clause-read_fault
+returns-clause-read_fault g c = TellsFault-none _ _ _ c.loop-taken.invariant.reads limit-read
+
+pub returns-clause-write_fault : goal.returns-clause-write_fault
+returns-clause-write_fault g c = TellsFault-none _ _ _ c.loop-taken.invariant.writes limit-write

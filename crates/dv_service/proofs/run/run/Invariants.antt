@@ -4,6 +4,7 @@ use Rattle.dv_service.specs.Sessions.{Stands}
 use Rattle.dv_service.specs.declared.run.TheConstants.{INPUT_LIMIT}
 use Rattle.dv_service.proofs.run.run.Given as goal
 
+-- some bytes were taken, the session stands behind them, and no fault was counted
 abbrev pub invariant-loop-taken : goal.invariant-loop-taken
 invariant-loop-taken g l = record {
   bytes : List ℕ;
@@ -11,8 +12,8 @@ invariant-loop-taken g l = record {
   count : length bytes ≡ l.taken;
   within : l.taken ≤ INPUT_LIMIT;
   stands : Stands l.session bytes (g.W.Ends.written l.fn.output) (g.W.Ends.written l.output);
-  read_later : g.S.Ends.read_faults l.fn.input ≤ g.S.Ends.read_faults l.input;
-  write_later : g.W.Ends.write_faults l.fn.output ≤ g.W.Ends.write_faults l.output;
+  reads : g.S.Ends.read_faults l.input ≡ g.S.Ends.read_faults l.fn.input;
+  writes : g.W.Ends.write_faults l.output ≡ g.W.Ends.write_faults l.fn.output;
 }
 
 abbrev pub decreases-loop-taken : goal.decreases-loop-taken
