@@ -27,7 +27,7 @@ digits_test = search rules
 pub own : IsNumeralModel (λ ds. list_all is_ascii_digit ds ≡ true) (digits_value 10)
 own = numerals_by_value _ digits_test
 
-both : (a b : Bool) → (a && b) ≡ true → (a ≡ true) × (b ≡ true)
+pub both : (a b : Bool) → (a && b) ≡ true → (a ≡ true) × (b ≡ true)
 both true true e = (refl, refl)
 both true false e = (refl, e)
 both false b e = absurd (cc)
@@ -246,8 +246,8 @@ value_of_places (suc count) n =
     let digit : digit_value (48 + n / 10 ^ count % 10) ≡ n / 10 ^ count % 10 = digit_of (n / 10 ^ count % 10) (omega arith) in
     after_value (0 * 10 + digit_value (48 + n / 10 ^ count % 10)) (places count n) ∙ rw (digit, length-places, value_of_places count n, pow-suc 10 count, zero-add (n / 10 ^ count % 10)) (sym (mod_step n (10 ^ count)))
 
-no_digit : (d : ℕ) → is_ascii_digit d ≡ true → d < 48 → ⊥
-no_digit d digit low = let (least, _) = both _ _ digit in omega (arith, leb-true 48 d least, low)
+pub no_digit : (d : ℕ) → is_ascii_digit d ≡ true → d < 48 → ⊥
+no_digit d digit low = let least : leb 48 d ≡ true = (both _ _ digit).0 in omega (arith, leb-true 48 d least, low)
 
 or_true : (a : Bool) → (a || true) ≡ true
 or_true true = refl
@@ -296,7 +296,7 @@ decimals_of-places scale n some =
     let none_left : scale - scale ≡ 0 = omega arith in
     rw (length-places, lt-ltb 0 scale some, le-leb scale scale (omega arith), digits_of_places scale n, value_of_places scale n, none_left) (ap Some (omega arith))
 
-drop_past : (xs ys : List ℕ) (c : ℕ) → drop (length xs + 1) (xs ++ c ∷ ys) ≡ ys
+pub drop_past : (xs ys : List ℕ) (c : ℕ) → drop (length xs + 1) (xs ++ c ∷ ys) ≡ ys
 drop_past [] ys c = refl
 drop_past (x ∷ xs) ys c =
     let more : suc (length xs) + 1 ≡ suc (length xs + 1) = omega arith in

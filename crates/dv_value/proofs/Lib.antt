@@ -3,6 +3,7 @@ pub mod AscendingNames
 pub mod Characters
 pub mod Floats
 pub mod Moments
+pub mod OneSpelling
 pub mod OneText
 pub mod Orders
 pub mod Printing

@@ -82,6 +82,11 @@ module _ (bytes : List ℕ) (small : (i : ℕ) → get_or bytes i 0 < 256) where
       ∙ ap (λ back. take 8 bytes ++ back) (be_bytes_8 (drop 8 bytes) low (omega (arith, length-drop 8 bytes)) small_low refl)
       ∙ take-append-drop 8 bytes
 
+-- the first eight bytes, and the number that they are
+pub be_bytes_8_of : (bytes front : List ℕ) (n : ℕ) → 8 ≤ length bytes → front ≡ take 8 bytes → ((i : ℕ) → get_or bytes i 0 < 256) → n ≡ from_be_bytes w64 front → take 8 bytes ≡ to_be_bytes w64 n
+be_bytes_8_of bytes front n enough is small e =
+    sym (be_bytes_8 (take 8 bytes) n (omega (arith, length-take 8 bytes)) (small_take 8 bytes small) (e ∙ ap (from_be_bytes w64) is))
+
 -- the first 16 bytes, and the number that they are
 pub be_bytes_16_of : (bytes front : List ℕ) (n : ℕ) → 16 ≤ length bytes → front ≡ take 16 bytes → ((i : ℕ) → get_or bytes i 0 < 256) → n ≡ from_be_bytes w128 front → take 16 bytes ≡ to_be_bytes w128 n
 be_bytes_16_of bytes front n enough is small e =

@@ -5,7 +5,7 @@ use Rattle.std.specs.Str.Parse.{AllDigits, IsNumeral, digits_value, without_lead
 use Rattle.std.proofs.lemmas.Fmt.{decimal_is_IsNumeral}
 use Rattle.std.proofs.lemmas.Slice.Eq.{bytes_eq-Decides}
 use Rattle.std.proofs.lemmas.Str.Parse.{without_leading_plus_none, digit_from_value}
-use Rattle.dv_value.specs.Tokens.{version_of}
+use Rattle.dv_value.specs.Tokens.{printed_version_of}
 
 -- digits have no plus in front
 pub no_plus : (text : List ℕ) → AllDigits 10 text → without_leading_plus text ≡ text
@@ -23,16 +23,16 @@ refused true false n other = refl
 refused false b n other = refl
 
 -- a printed version is read
-pub version_of-decimal : (n : ℕ) (text : List ℕ) → n < 2 ^ 63 → decimal n ≡ text → version_of text ≡ Some n
-unfolding version_of
-version_of-decimal n text h e =
+pub printed_version_of-decimal : (n : ℕ) (text : List ℕ) → n < 2 ^ 63 → decimal n ≡ text → printed_version_of text ≡ Some n
+unfolding printed_version_of
+printed_version_of-decimal n text h e =
     let value : digits_value 10 text ≡ n = ap (digits_value 10) (sym e) ∙ (decimal_is_IsNumeral n (omega (arith, h))).1 in
     rw (value) (chosen (nat_lt n (2 ^ 63)) (bytes_eq (decimal n) text) n (lt-ltb n (2 ^ 63) h) ((bytes_eq-Decides (decimal n) text).1 e))
 
 -- any other text is not
-pub version_of-other : (text : List ℕ) → ((n : ℕ) → n < 2 ^ 63 → decimal n ≡ text → ⊥) → version_of text ≡ None
-unfolding version_of
-version_of-other text other =
+pub printed_version_of-other : (text : List ℕ) → ((n : ℕ) → n < 2 ^ 63 → decimal n ≡ text → ⊥) → printed_version_of text ≡ None
+unfolding printed_version_of
+printed_version_of-other text other =
     refused _ _ (digits_value 10 text) (λ below same _. other (digits_value 10 text) (ltb-true _ _ below) ((bytes_eq-Decides _ text).0 same))
 
 cell : (b : Bool) (n m : ℕ) (r : Bool) → (n ≡ m → r ≡ false) → cond (not b) (1 + n) 0 ≡ m + 1 → (b || r) ≡ false

@@ -1,3 +1,4 @@
+//! Amounts: decimal numbers, kept as the integer that their last decimal counts.
 ghost use Rattle.std.specs.Prelude.{◌≡◌, ◌^◌, ◌<◌, ◌≤◌, ◌++◌, ◌∷◌, [], ◌*◌, ◌+◌, IfOk, OnOk, MatchOption, if◌then◌else◌, None, Some, encode_utf8_all, string_bytes};
 ghost use Rattle.std.specs.Option.{SomeIff};
 ghost use Rattle.std.specs.List.{list_all};
@@ -24,7 +25,8 @@ pub fn read_amount(text: &str, scale: u8) -> Option<i64>
 // Reads the text of an amount with no sign. None also past 64 bits.
 fn read_magnitude(text: &str, scale: u8) -> Option<u64>
     requires { scale ≤ 4 }
-    ensures { MatchOption (magnitude_of scale text.now) (result ≡ None) (λ n. SomeIff result (n < 2 ^ 64) n) }
+    ensures { MatchOption (magnitude_of scale text.now)
+        (result ≡ None) (λ n. SomeIff result (n < 2 ^ 64) n) }
 {
     match text.split_once('.') {
         Some((whole, decimals)) => {
@@ -37,14 +39,16 @@ fn read_magnitude(text: &str, scale: u8) -> Option<u64>
 // The number of last decimals of a whole and decimals. None past 64 bits.
 fn joined(whole: u64, decimals: u64, scale: u8) -> Option<u64>
     requires { scale ≤ 4 }
-    ensures { SomeIff result (whole * 10 ^ scale + decimals < 2 ^ 64) (whole * 10 ^ scale + decimals) }
+    ensures { SomeIff result (whole * 10 ^ scale + decimals < 2 ^ 64)
+        (whole * 10 ^ scale + decimals) }
 {
     whole.checked_mul(unit(scale))?.checked_add(decimals)
 }
 
 // Reads whole digits. None also past 64 bits.
 fn read_whole(text: &str) -> Option<u64>
-    ensures { MatchOption (whole_of text.now) (result ≡ None) (λ n. SomeIff result (n < 2 ^ 64) n) }
+    ensures { MatchOption (whole_of text.now)
+        (result ≡ None) (λ n. SomeIff result (n < 2 ^ 64) n) }
 {
     if !is_whole(text.as_bytes()) {
         return None;
@@ -115,7 +119,8 @@ fn unit(scale: u8) -> u64
 pub fn print_amount(alloc: Global, amount: i64, scale: u8) -> Result<Text, AllocError>
     requires { scale ≤ 4 }
     ensures text { IfOk result (λ text. text ≡ amount_text scale amount) }
-    ensures read_again { IfOk result (λ text. amount_of scale (encode_utf8_all text) ≡ Some amount) }
+    ensures read_again { IfOk result (λ text.
+        amount_of scale (encode_utf8_all text) ≡ Some amount) }
 {
     let magnitude = amount.unsigned_abs();
     let mut text = signed(alloc, amount < 0, magnitude / unit(scale))?;
@@ -125,7 +130,8 @@ pub fn print_amount(alloc: Global, amount: i64, scale: u8) -> Result<Text, Alloc
 
 // The text of a whole number with its sign.
 fn signed(alloc: Global, is_negative: bool, whole: u64) -> Result<String, AllocError>
-    ensures { IfOk result (λ text. string_bytes text ≡ (if is_negative then 45 ∷ decimal whole else decimal whole)) }
+    ensures { IfOk result (λ text.
+        string_bytes text ≡ (if is_negative then 45 ∷ decimal whole else decimal whole)) }
 {
     if is_negative {
         Ok(format!(in alloc; "-{whole}")?)
@@ -138,7 +144,8 @@ fn signed(alloc: Global, is_negative: bool, whole: u64) -> Result<String, AllocE
 #[tactic(auto, unfolding(crate::specs::Amount::decimals_text))]
 fn push_decimals(text: &mut String, number: u64, scale: u8) -> Result<(), AllocError>
     requires { scale ≤ 4 }
-    ensures { OnOk result (string_bytes text.new ≡ string_bytes text.old ++ decimals_text scale number) }
+    ensures { OnOk result
+        (string_bytes text.new ≡ string_bytes text.old ++ decimals_text scale number) }
 {
     if scale == 0 {
         return Ok(());

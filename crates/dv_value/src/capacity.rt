@@ -1,3 +1,4 @@
+//! Lists with room reserved at once.
 ghost use Rattle.std.specs.Prelude.{◌≡◌, [], IfOk};
 
 use sqlite_items::Items;

@@ -1,3 +1,4 @@
+//! Ids, which are UUIDs.
 ghost use Rattle.std.specs.Prelude.{◌≡◌, Some, option_map, string_bytes, IfOk};
 ghost use Rattle.dv_value.specs.Ids.{id_of, id_text};
 

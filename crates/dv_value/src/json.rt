@@ -1,3 +1,4 @@
+//! JSON out of bytes, and the members of an object.
 ghost use Rattle.std.specs.Prelude.{◌≡◌, Some, None, IfOk, OnOk, OnErr, IsErrOf, option_map};
 ghost use Rattle.serde_json.specs.Data.{put};
 ghost use Rattle.serde_json.specs.Find.{get_member};
@@ -39,7 +40,8 @@ pub fn add_member(
     name: &str,
     value: Json,
 ) -> Result<(), AllocError>
-    ensures { OnOk result (members_view members.new.entries ≡ put name.now (view value) (members_view members.old.entries)) }
+    ensures { OnOk result (members_view members.new.entries
+        ≡ put name.now (view value) (members_view members.old.entries)) }
 {
     members.insert(String::from_str(alloc, name)?, value)?;
     Ok(())
@@ -47,8 +49,10 @@ pub fn add_member(
 
 /// Takes a member out of a JSON object, if there is one of the name.
 pub fn take_member(members: &mut Map<String, Json>, name: &str) -> Option<Json>
-    ensures value { option_map view result ≡ get_member name.now (members_view members.old.entries) }
-    ensures rest { members_view members.new.entries ≡ without name.now (members_view members.old.entries) }
+    ensures value { option_map view result
+        ≡ get_member name.now (members_view members.old.entries) }
+    ensures rest { members_view members.new.entries
+        ≡ without name.now (members_view members.old.entries) }
 {
     members.remove(name)
 }

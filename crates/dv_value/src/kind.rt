@@ -1,3 +1,4 @@
+//! The kinds of values, with their limits.
 use sqlite_items::Items;
 
 /// What a column holds, with its limits.

@@ -1,7 +1,7 @@
 //! The plain values of the record service: ids, texts, values with their order and their spelling, raw values as
 //! JSON has them and the kinds that type them, and tokens.
 //!
-//! The layers above may rest on this: an id is read in any form of a UUID and has one printed form; a text is a
+//! Callers may rely on this: an id is read in any form of a UUID and has one printed form; a text is a
 //! list of characters, ordered by its UTF-8 bytes; values have a total order up to case folding, and one spelling
 //! each, of which none begins another; a moment has one text; a value within its kind's limits is typed again from
 //! its own raw value; bytes are JSON exactly where `serde_json` reads them.
@@ -33,6 +33,6 @@ pub use printed::version_json;
 pub use raw::{Raw, Values};
 pub use spelling::{TakeFault, no_spelling_begins_another, put_value, take_value};
 pub use text::{Names, Text};
-pub use token::{Token, read_version};
+pub use token::{Token, a_token_has_one_spelling, read_version};
 pub use typing::{TypeFault, raw_of, type_raw};
 pub use value::Value;

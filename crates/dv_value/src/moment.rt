@@ -1,3 +1,4 @@
+//! Moments in whole seconds, and their one text.
 ghost use Rattle.std.specs.Prelude.{◌≡◌, ℕ, ℤ, List, ◌+◌, ◌/◌, ◌%◌, ◌&&◌, ◌<◌, ◌↔◌, length, IsTrue, IfOk, encode_utf8_all, if◌then◌else◌, Some, None, true, false, MatchOption};
 ghost use Rattle.dv_value.specs.Moment.{IsMoment, is_civil_date, is_civil_time, seconds_of, civil_text, pair_at, civil_of, moment_of, IsNear, IsDateOf, IsCivilAt, IsTextOf};
 
@@ -53,9 +54,12 @@ pub fn print_moment(alloc: Global, seconds: i64) -> Result<Text, AllocError>
 /// A moment has one text, and a text is read as the moment whose text it is, of which there is one at most. The call
 /// does nothing: what it ensures is the law.
 pub fn a_moment_has_one_text()
-    ensures one_text { (a : List ℕ) (b : List ℕ) (seconds : ℤ) → IsTextOf a seconds → IsTextOf b seconds → a ≡ b }
-    ensures one_moment { (text : List ℕ) (a : ℤ) (b : ℤ) → IsTextOf text a → IsTextOf text b → a ≡ b }
-    ensures reads { (text : List ℕ) (seconds : ℤ) → (moment_of text ≡ Some seconds) ↔ IsTextOf text seconds }
+    ensures one_text { (a : List ℕ) (b : List ℕ) (seconds : ℤ)
+        → IsTextOf a seconds → IsTextOf b seconds → a ≡ b }
+    ensures one_moment { (text : List ℕ) (a : ℤ) (b : ℤ)
+        → IsTextOf text a → IsTextOf text b → a ≡ b }
+    ensures reads { (text : List ℕ) (seconds : ℤ)
+        → (moment_of text ≡ Some seconds) ↔ IsTextOf text seconds }
 {}
 
 // A date and a time of day in UTC, as a text spells them, whether the calendar has them or not.
@@ -145,7 +149,8 @@ impl Civil {
 
     // Seconds since 1970-01-01T00:00:00Z, where the calendar and the day have this date and time.
     fn seconds(&self) -> Option<i64>
-        ensures { result ≡ (if is_civil_date self.now && is_civil_time self.now then Some (seconds_of self.now) else None) }
+        ensures { result ≡ (if is_civil_date self.now && is_civil_time self.now
+            then Some (seconds_of self.now) else None) }
     {
         let date = match self.date() {
             Some(date) => date,

@@ -1,3 +1,4 @@
+//! The total order of values.
 ghost use Rattle.std.specs.Prelude.{◌≡◌, IfOk, chars, encode_utf8_all};
 ghost use Rattle.std.specs.Ordering.{is_lt};
 ghost use Rattle.std.specs.Cmp.{IsTotalOrder, IsStrictWeakOrder};

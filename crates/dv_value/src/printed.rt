@@ -1,3 +1,4 @@
+//! Texts, ids, versions and raw values as JSON.
 ghost use Rattle.std.specs.Prelude.{◌≡◌, IfOk};
 ghost use Rattle.serde_json.specs.Data.{no_members};
 ghost use Rattle.serde_json.specs.View.{view, members_view};
@@ -54,7 +55,8 @@ impl Values {
 
     // The values as the members of a JSON object.
     fn members(&self, alloc: Global) -> Result<Map<String, Json>, AllocError>
-        ensures { IfOk result (λ members. members_view members.entries ≡ with_values self.now no_members) }
+        ensures { IfOk result (λ members. members_view members.entries
+            ≡ with_values self.now no_members) }
     {
         let mut members: Map<String, Json> = Map::new(alloc);
         for (name, value) in self.as_slice() {

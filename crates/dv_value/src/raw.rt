@@ -1,3 +1,4 @@
+//! Raw values as JSON has them, alone and under names.
 ghost use Rattle.std.specs.Prelude.{◌≡◌, ◌∷◌, [], ◌++◌, IfOk, IfSome, OnOk, OnErr, chars, option_map};
 ghost use Rattle.serde_json.specs.View.{view, members_view};
 ghost use Rattle.dv_value.specs.Raws.{raw_of, values_of, value_of, HasAscendingNames};

@@ -1,3 +1,4 @@
+//! The one spelling of a value in bytes.
 ghost use Rattle.std.specs.Prelude.{◌≡◌, ℕ, ℤ, ◌<◌, ◌^◌, ◌++◌, ◌∷◌, List, [], Bool, length, take, MatchOption, MatchResult, IfOk, OnOk, OnErr, IsErrOf};
 ghost use Rattle.std.specs.Int.{to_be_bytes, cast_unsigned, from_bool, w32, w64, w128};
 ghost use Rattle.dv_value.specs.Spelling.{spelling_of, IsValue, HasSpelling, BeginsWith, BeginsWithNumber};
@@ -81,7 +82,8 @@ fn append(out: &mut Vec<u8>, tag: u8, body: &[u8]) -> Result<(), AllocError>
 // Appends the tag of a text, its length in bytes and its bytes, or nothing.
 fn append_text(out: &mut Vec<u8>, text: &[u8]) -> Result<(), AllocError>
     requires { length text.now < 2 ^ 32 }
-    ensures ok { OnOk result (out.new.items ≡ out.old.items ++ 6 ∷ (to_be_bytes w32 (length text.now) ++ text.now)) }
+    ensures ok { OnOk result (out.new.items
+        ≡ out.old.items ++ 6 ∷ (to_be_bytes w32 (length text.now) ++ text.now)) }
     ensures err { OnErr result (out.new.items ≡ out.old.items) }
 {
     out.reserve(5 + text.len())?;
@@ -94,8 +96,12 @@ fn append_text(out: &mut Vec<u8>, text: &[u8]) -> Result<(), AllocError>
 /// matter.
 pub fn take_value(alloc: Global, bytes: &[u8]) -> Result<(Value, usize), TakeFault>
     ensures taken { IfOk result (λ taken. BeginsWith bytes.now taken.0 taken.1) }
-    ensures refused { IsErrOf result TakeFault.NotCanonical → (value : Value) (len : ℕ) → BeginsWith bytes.now value len → ⊥ }
-    ensures again { (value : Value) (rest : List ℕ) → IsValue value → HasSpelling value → bytes.now ≡ spelling_of value ++ rest → MatchResult result (λ taken. taken ≡ (value, length (spelling_of value))) (λ fault. fault ≡ TakeFault.OutOfMemory) }
+    ensures refused { IsErrOf result TakeFault.NotCanonical
+        → (value : Value) (len : ℕ) → BeginsWith bytes.now value len → ⊥ }
+    ensures again { (value : Value) (rest : List ℕ) → IsValue value → HasSpelling value
+        → bytes.now ≡ spelling_of value ++ rest
+        → MatchResult result (λ taken. taken ≡ (value, length (spelling_of value)))
+        (λ fault. fault ≡ TakeFault.OutOfMemory) }
 {
     match bytes.split_first() {
         Some((tag, body)) => take_body(alloc, *tag, body),
@@ -105,14 +111,17 @@ pub fn take_value(alloc: Global, bytes: &[u8]) -> Result<(Value, usize), TakeFau
 
 /// No spelling begins another one, so two values never share one. The call does nothing: what it ensures is the law.
 pub fn no_spelling_begins_another()
-    ensures { (a : Value) (b : Value) (rest : List ℕ) → IsValue a → HasSpelling a → IsValue b → HasSpelling b → spelling_of b ≡ spelling_of a ++ rest → (a ≡ b) × (rest ≡ []) }
+    ensures { (a : Value) (b : Value) (rest : List ℕ)
+        → IsValue a → HasSpelling a → IsValue b → HasSpelling b
+        → spelling_of b ≡ spelling_of a ++ rest → (a ≡ b) × (rest ≡ []) }
 {}
 
 // Takes the value with this tag.
 #[tactic(auto, unfolding(crate::specs::Spelling::tag_of, crate::specs::Spelling::body_of, crate::specs::Spelling::HasSpelling, crate::specs::Spelling::IsValue))]
 fn take_body(alloc: Global, tag: u8, body: &[u8]) -> Result<(Value, usize), TakeFault>
     ensures taken { IfOk result (λ taken. BeginsWith (tag ∷ body.now) taken.0 taken.1) }
-    ensures refused { IsErrOf result TakeFault.NotCanonical → (value : Value) (len : ℕ) → BeginsWith (tag ∷ body.now) value len → ⊥ }
+    ensures refused { IsErrOf result TakeFault.NotCanonical
+        → (value : Value) (len : ℕ) → BeginsWith (tag ∷ body.now) value len → ⊥ }
 {
     match tag {
         EMPTY => Ok((Value::Empty, 1)),
@@ -148,7 +157,8 @@ fn take_body(alloc: Global, tag: u8, body: &[u8]) -> Result<(Value, usize), Take
 // Takes the text whose length and bytes the bytes begin with.
 fn take_text(alloc: Global, body: &[u8]) -> Result<(Value, usize), TakeFault>
     ensures taken { IfOk result (λ taken. BeginsWith (TEXT ∷ body.now) taken.0 taken.1) }
-    ensures refused { IsErrOf result TakeFault.NotCanonical → (value : Value) (len : ℕ) → BeginsWith (TEXT ∷ body.now) value len → ⊥ }
+    ensures refused { IsErrOf result TakeFault.NotCanonical
+        → (value : Value) (len : ℕ) → BeginsWith (TEXT ∷ body.now) value len → ⊥ }
 {
     let len = match take_four(body) {
         Some(len) => len as usize,
@@ -165,7 +175,8 @@ fn take_text(alloc: Global, body: &[u8]) -> Result<(Value, usize), TakeFault>
 
 // The truth value of the first byte.
 fn take_flag(body: &[u8]) -> Option<bool>
-    ensures { MatchOption result ((flag : Bool) → take 1 body.now ≡ from_bool flag ∷ [] → ⊥) (λ flag. take 1 body.now ≡ from_bool flag ∷ []) }
+    ensures { MatchOption result ((flag : Bool) → take 1 body.now ≡ from_bool flag ∷ [] → ⊥)
+        (λ flag. take 1 body.now ≡ from_bool flag ∷ []) }
 {
     match body.first()? {
         0 => Some(false),
@@ -176,7 +187,10 @@ fn take_flag(body: &[u8]) -> Option<bool>
 
 // Takes the moment whose bytes the bytes begin with.
 fn take_moment(body: &[u8]) -> Option<i64>
-    ensures { MatchOption result ((seconds : ℤ) → IsMoment seconds → BeginsWithNumber w64 body.now (cast_unsigned w64 seconds) → ⊥) (λ seconds. IsMoment seconds × BeginsWithNumber w64 body.now (cast_unsigned w64 seconds)) }
+    ensures { MatchOption result
+        ((seconds : ℤ) → IsMoment seconds
+        → BeginsWithNumber w64 body.now (cast_unsigned w64 seconds) → ⊥)
+        (λ seconds. IsMoment seconds × BeginsWithNumber w64 body.now (cast_unsigned w64 seconds)) }
 {
     match take_eight(body) {
         Some(bits) if is_moment(bits.cast_signed()) => Some(bits.cast_signed()),

@@ -1,3 +1,4 @@
+//! Texts, seen as lists of characters.
 ghost use Rattle.std.specs.Prelude.{◌≡◌, [], ◌↔◌, IsTrue, IfOk, length, chars, encode_utf8_all, string_bytes};
 
 use sqlite_items::Items;

@@ -1,8 +1,11 @@
-ghost use Rattle.std.specs.Prelude.{◌≡◌, ◌<◌, ◌^◌, Some, IfOk, OnSome, IfNone, option_and_then, string_bytes};
+//! Versions, and the tokens of a reader of changes.
+ghost use Rattle.std.specs.Prelude.{◌≡◌, ◌↔◌, ℕ, List, ◌<◌, ◌^◌, Some, IfOk, OnSome, IfNone, option_and_then, string_bytes};
 ghost use Rattle.serde_json.specs.Data.{string};
 ghost use Rattle.serde_json.specs.View.{view};
-ghost use Rattle.dv_value.specs.Tokens.{version_of, token_of, part_way, token_text};
+ghost use Rattle.dv_value.specs.Tokens.{version_of, printed_version_of, token_of, part_way, token_text, IsSpelled};
+ghost use Rattle.dv_value.specs.declared.token.Token.{Token};
 
+use crate::amount::read_amount;
 use itoa::Buffer;
 use serde_json::Value as Json;
 use std::alloc::{AllocError, Global};
@@ -23,9 +26,9 @@ impl Token {
         ensures { result ≡ token_of text.now }
     {
         match text.split_once('+') {
-            Some((start, place)) => Token::between(read_version(start)?, read_version(place)?),
+            Some((start, place)) => Token::between(read_printed(start)?, read_printed(place)?),
             None => {
-                let version = read_version(text)?;
+                let version = read_printed(text)?;
                 Some(Token {
                     start: version,
                     place: version,
@@ -67,14 +70,30 @@ impl Token {
     }
 }
 
+/// Reads a version as a request names it: an amount without decimals that is not below zero, so `-0` is 0. None for
+/// any other text, and for a number above 2^63 - 1, the last version that there can be.
+#[tactic(auto, unfolding(crate::specs::Tokens::version_of, crate::specs::Tokens::natural_of))]
+pub fn read_version(text: &str) -> Option<u64>
+    ensures { result ≡ version_of text.now }
+{
+    let version = read_amount(text, 0)?;
+    u64::try_from(version).ok()
+}
+
+/// A token has one spelling, and a text is read as the token whose spelling it is. The call does nothing: what it
+/// ensures is the law.
+pub fn a_token_has_one_spelling()
+    ensures { (text : List ℕ) (token : Token)
+        → (token_of text ≡ Some token) ↔ IsSpelled token text }
+{}
+
 // The last version that there can be, 2^63 - 1.
 const LAST_VERSION: u64 = 9_223_372_036_854_775_807;
 
-/// Reads a version: its number in decimal, as it is printed. None for any other text, and for a number above
-/// 2^63 - 1, the last version that there can be.
-#[tactic(auto, unfolding(crate::specs::Tokens::version_of))]
-pub fn read_version(text: &str) -> Option<u64>
-    ensures { result ≡ version_of text.now }
+// Reads a version of a token, which has no spelling but the one that is printed.
+#[tactic(auto, unfolding(crate::specs::Tokens::printed_version_of))]
+fn read_printed(text: &str) -> Option<u64>
+    ensures { result ≡ printed_version_of text.now }
 {
     let Ok(version) = text.parse::<u64>() else {
         return None;

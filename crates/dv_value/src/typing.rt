@@ -1,3 +1,4 @@
+//! Raw values typed by a kind, and values as raw ones.
 ghost use Rattle.std.specs.Prelude.{◌≡◌, ◌≤◌, IfOk, IsErrOf, Ok, Err, Some, None, ◌&&◌, if◌then◌else◌};
 ghost use Rattle.std.specs.List.{list_any};
 ghost use Rattle.std.specs.Ordering.{int_eq};
@@ -47,8 +48,10 @@ pub fn type_raw(alloc: Global, kind: &Kind, raw: &Raw) -> Result<Value, TypeFaul
     ensures ok { IfOk result (λ value. typed kind.now raw.now ≡ Ok value) }
     ensures of_kind { IfOk result (λ value. IsOfKind kind.now value) }
     ensures within { IfOk result (λ value. IsWithin kind.now value) }
-    ensures wrong_type { IsErrOf result TypeFault.WrongType → typed kind.now raw.now ≡ Err TypeFault.WrongType }
-    ensures out_of_range { IsErrOf result TypeFault.OutOfRange → typed kind.now raw.now ≡ Err TypeFault.OutOfRange }
+    ensures wrong_type { IsErrOf result TypeFault.WrongType
+        → typed kind.now raw.now ≡ Err TypeFault.WrongType }
+    ensures out_of_range { IsErrOf result TypeFault.OutOfRange
+        → typed kind.now raw.now ≡ Err TypeFault.OutOfRange }
 {
     match raw {
         Raw::Null => Ok(Value::Empty),
@@ -95,7 +98,9 @@ fn type_number(kind: &Kind, number: i64) -> Result<Value, TypeFault>
 
 // The number, where it is one of the options.
 fn type_choice(options: &[i32], number: i64) -> Result<Value, TypeFault>
-    ensures { result ≡ in_limits (is_32 number && list_any (λ option. int_eq option number) options.now) (Value.Choice number) }
+    ensures { result ≡ in_limits
+        (is_32 number && list_any (λ option. int_eq option number) options.now)
+        (Value.Choice number) }
 {
     let option = match narrow(number) {
         Some(option) => option,
@@ -125,8 +130,10 @@ fn narrow(number: i64) -> Option<i32>
 fn type_text(alloc: Global, kind: &Kind, text: &Text) -> Result<Value, TypeFault>
     requires { HasScale kind.now }
     ensures ok { IfOk result (λ value. typed_text kind.now text.now ≡ Ok value) }
-    ensures wrong_type { IsErrOf result TypeFault.WrongType → typed_text kind.now text.now ≡ Err TypeFault.WrongType }
-    ensures out_of_range { IsErrOf result TypeFault.OutOfRange → typed_text kind.now text.now ≡ Err TypeFault.OutOfRange }
+    ensures wrong_type { IsErrOf result TypeFault.WrongType
+        → typed_text kind.now text.now ≡ Err TypeFault.WrongType }
+    ensures out_of_range { IsErrOf result TypeFault.OutOfRange
+        → typed_text kind.now text.now ≡ Err TypeFault.OutOfRange }
 {
     match kind {
         Kind::Amount { scale } => match read_amount(text.as_str(), *scale) {
@@ -161,7 +168,8 @@ pub fn raw_of(alloc: Global, kind: &Kind, value: &Value) -> Result<Raw, AllocErr
     requires of_kind { IsOfKind kind.now value.now }
     requires spelled { HasSpelling value.now }
     ensures spelling { IfOk result (λ raw. IsRawOf kind.now value.now raw) }
-    ensures back { IsWithin kind.now value.now → IfOk result (λ raw. typed kind.now raw ≡ Ok value.now) }
+    ensures back { IsWithin kind.now value.now
+        → IfOk result (λ raw. typed kind.now raw ≡ Ok value.now) }
 {
     match value {
         Value::Empty => Ok(Raw::Null),

@@ -1,3 +1,4 @@
+//! Values of the kinds that a column may have.
 ghost use Rattle.std.specs.Prelude.{◌≡◌, IfOk};
 
 use crate::id::Id;
