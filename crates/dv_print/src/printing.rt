@@ -1,14 +1,21 @@
-ghost use Rattle.std.specs.Prelude.{◌≡◌, ◌≤◌, codes, map, Some, IfOk, OnOk};
+//! Replies as JSON, and as one line of text.
+ghost use Rattle.std.specs.Prelude.{◌≡◌, ◌≤◌, codes, map, Some, IfOk};
 ghost use Rattle.serde_json.specs.Data.{array, depth};
 ghost use Rattle.serde_json.specs.Read.{read, max_depth};
 ghost use Rattle.serde_json.specs.View.{view, members_view, items_of};
 ghost use Rattle.serde_json.specs.Written.{has_float, compact_text};
-ghost use Rattle.dv_value.specs.Printed.{values_data};
-ghost use Rattle.dv_print.specs.Printed.{reply_data, share_data, change_data, page_members, changes_members, rolled_members, caller_members, refused_data};
+ghost use Rattle.dv_value.specs.Printed.{id_data, values_data};
+ghost use Rattle.dv_print.specs.Printed.{ok, list_data, text_or_null, reply_data, share_data, change_data, page_members};
+ghost use Rattle.dv_print.specs.Printed.{changes_members, rolled_members, caller_members};
+ghost use Rattle.dv_print.specs.Printed.{with_item, refused_data};
+ghost use Rattle.dv_refusal.specs.Refusals.{refusal_members};
 
-use crate::object::{count_or_null, flag_or_null, ids_json, one_member, succeeded, words_or_null};
+use crate::object::{
+    count_or_null, flag_or_null, ids_json, one_json, one_member, succeeded, succeeded_with,
+    with_member, words_or_null,
+};
 use dv_request::{Change, Refusal, Reply, Share};
-use dv_value::{Id, Raw, Token, Values, add_member, version_json};
+use dv_value::{Id, Raw, Text, Token, Values, version_json};
 use serde_json::{Map, Value as Json};
 use std::alloc::{AllocError, Global};
 
@@ -16,7 +23,8 @@ use std::alloc::{AllocError, Global};
 /// byte order.
 pub fn print_reply(alloc: Global, reply: &Reply) -> Result<Vec<u8>, AllocError>
     ensures text { IfOk result (λ text. text.items ≡ compact_text (reply_data reply.now)) }
-    ensures reads_back { IfOk result (λ text. depth (reply_data reply.now) ≤ max_depth → read text.items ≡ Some (reply_data reply.now)) }
+    ensures reads_back { IfOk result (λ text. depth (reply_data reply.now) ≤ max_depth
+        → read text.items ≡ Some (reply_data reply.now)) }
 {
     Ok(reply_json(alloc, reply)?.to_vec(alloc)?)
 }
@@ -28,22 +36,12 @@ fn reply_json(alloc: Global, reply: &Reply) -> Result<Json, AllocError>
     ensures { IfOk result (λ json. view json ≡ reply_data reply.now) }
 {
     match reply {
-        Reply::Done => Ok(succeeded(alloc, Map::new(alloc))?),
-        Reply::Created { id } => Ok(succeeded(
-            alloc,
-            one_member(alloc, "id", id.to_json(alloc)?)?,
-        )?),
-        Reply::Found { row } => Ok(succeeded(
-            alloc,
-            one_member(alloc, "row", row.to_json(alloc)?)?,
-        )?),
-        Reply::Rights { rights } => Ok(succeeded(
-            alloc,
-            one_member(alloc, "rights", Json::from(*rights))?,
-        )?),
+        Reply::Done => succeeded(alloc, Map::new(alloc)),
+        Reply::Created { id } => succeeded_with(alloc, "id", id.to_json(alloc)?),
+        Reply::Found { row } => succeeded_with(alloc, "row", row.to_json(alloc)?),
+        Reply::Rights { rights } => succeeded_with(alloc, "rights", Json::from(*rights)),
         Reply::Shares { shares } => {
-            let shares = shares_json(alloc, shares.as_slice())?;
-            Ok(succeeded(alloc, one_member(alloc, "shares", shares)?)?)
+            succeeded_with(alloc, "shares", shares_json(alloc, shares.as_slice())?)
         }
         Reply::Page {
             rows,
@@ -51,40 +49,21 @@ fn reply_json(alloc: Global, reply: &Reply) -> Result<Json, AllocError>
             cookie,
             total,
             over,
-        } => {
-            let rows = rows_json(alloc, rows.as_slice())?;
-            let members = page_json(
-                alloc,
-                rows,
-                *more,
-                words_or_null(alloc, cookie)?,
-                *total,
-                *over,
-            )?;
-            Ok(succeeded(alloc, members)?)
-        }
+        } => page_json(alloc, rows.as_slice(), *more, cookie, *total, *over),
         Reply::Changes {
             changes,
             more,
             token,
-        } => {
-            let changes = changes_json(alloc, changes.as_slice())?;
-            Ok(succeeded(alloc, delta_json(alloc, changes, *more, *token)?)?)
+        } => delta_json(alloc, changes.as_slice(), *more, *token),
+        Reply::Rolled { state, value } => rolled_json(alloc, *state, value),
+        Reply::Calculated { calculated } => {
+            succeeded_with(alloc, "calculated", Json::from(*calculated))
         }
-        Reply::Rolled { state, value } => Ok(succeeded(alloc, rolled_json(alloc, *state, value)?)?),
-        Reply::Calculated { calculated } => Ok(succeeded(
-            alloc,
-            one_member(alloc, "calculated", Json::from(*calculated))?,
-        )?),
-        Reply::Caller { user, unit, teams } => {
-            let teams = ids_json(alloc, teams.as_slice())?;
-            Ok(succeeded(alloc, caller_json(alloc, *user, *unit, teams)?)?)
-        }
+        Reply::Caller { user, unit, teams } => caller_json(alloc, *user, *unit, teams.as_slice()),
         Reply::Replies { replies } => {
-            let replies = replies_json(alloc, replies.as_slice())?;
-            Ok(succeeded(alloc, one_member(alloc, "replies", replies)?)?)
+            succeeded_with(alloc, "replies", replies_json(alloc, replies.as_slice())?)
         }
-        Reply::Refused { refusal, item } => Ok(refused_json(alloc, refusal, *item)?),
+        Reply::Refused { refusal, item } => refused_json(alloc, refusal, *item),
     }
 }
 
@@ -106,13 +85,29 @@ fn replies_json(alloc: Global, replies: &[Reply]) -> Result<Json, AllocError>
 fn refused_json(alloc: Global, refusal: &Refusal, item: Option<u32>) -> Result<Json, AllocError>
     ensures { IfOk result (λ json. view json ≡ refused_data refusal.now item) }
 {
-    let mut members = refusal.members(alloc)?;
-    if let Some(item) = item {
-        add_member(alloc, &mut members, "item", Json::from(item))?;
-    }
-    Ok(Json::Object(one_member(alloc, "refused", Json::Object(members))?))
+    one_json(
+        alloc,
+        "refused",
+        Json::Object(refused_members(alloc, refusal, item)?),
+    )
 }
 
+// The members of a refusal, and the place, if there is one, of the request that is refused.
+fn refused_members(
+    alloc: Global,
+    refusal: &Refusal,
+    item: Option<u32>,
+) -> Result<Map<String, Json>, AllocError>
+    ensures { IfOk result (λ members. members_view members.entries
+        ≡ with_item item (refusal_members refusal.now)) }
+{
+    match item {
+        Some(item) => with_member(alloc, refusal.members(alloc)?, "item", Json::from(item)),
+        None => refusal.members(alloc),
+    }
+}
+
+// The rights that principals were given on a row, as a list.
 fn shares_json(alloc: Global, shares: &[Share]) -> Result<Json, AllocError>
     ensures { IfOk result (λ json. view json ≡ array (items_of (map share_data shares.now))) }
 {
@@ -123,26 +118,18 @@ fn shares_json(alloc: Global, shares: &[Share]) -> Result<Json, AllocError>
     Ok(Json::Array(list))
 }
 
+// The rights that a principal was given on a row.
 #[tactic(auto, unfolding(crate::specs::Printed::share_data))]
 fn share_json(alloc: Global, share: &Share) -> Result<Json, AllocError>
     ensures { IfOk result (λ json. view json ≡ share_data share.now) }
 {
-    let mut members = one_member(alloc, "direct", Json::from(share.direct))?;
-    add_member(
-        alloc,
-        &mut members,
-        "inherited",
-        Json::from(share.inherited),
-    )?;
-    add_member(
-        alloc,
-        &mut members,
-        "principal",
-        share.principal.to_json(alloc)?,
-    )?;
-    Ok(Json::Object(members))
+    let members = one_member(alloc, "direct", Json::from(share.direct))?;
+    let members = with_member(alloc, members, "inherited", Json::from(share.inherited))?;
+    let principal = share.principal.to_json(alloc)?;
+    Ok(Json::Object(with_member(alloc, members, "principal", principal)?))
 }
 
+// The rows as a list.
 fn rows_json(alloc: Global, rows: &[Values]) -> Result<Json, AllocError>
     ensures { IfOk result (λ json. view json ≡ array (items_of (map values_data rows.now))) }
 {
@@ -153,25 +140,28 @@ fn rows_json(alloc: Global, rows: &[Values]) -> Result<Json, AllocError>
     Ok(Json::Array(list))
 }
 
-// What a page says.
+// The reply of a page.
 fn page_json(
     alloc: Global,
-    rows: Json,
+    rows: &[Values],
     more: bool,
-    cookie: Json,
+    cookie: &Option<Text>,
     total: Option<u32>,
     over: Option<bool>,
-) -> Result<Map<String, Json>, AllocError>
-    ensures { IfOk result (λ members. members_view members.entries ≡ page_members (view rows) more (view cookie) total over) }
+) -> Result<Json, AllocError>
+    ensures { IfOk result (λ json. view json
+        ≡ ok (page_members (list_data (map values_data rows.now)) more
+        (text_or_null cookie.now) total over)) }
 {
-    let mut members = one_member(alloc, "cookie", cookie)?;
-    add_member(alloc, &mut members, "more", Json::Bool(more))?;
-    add_member(alloc, &mut members, "over", flag_or_null(over))?;
-    add_member(alloc, &mut members, "rows", rows)?;
-    add_member(alloc, &mut members, "total", count_or_null(total))?;
-    Ok(members)
+    let members = one_member(alloc, "cookie", words_or_null(alloc, cookie)?)?;
+    let members = with_member(alloc, members, "more", Json::Bool(more))?;
+    let members = with_member(alloc, members, "over", flag_or_null(over))?;
+    let members = with_member(alloc, members, "rows", rows_json(alloc, rows)?)?;
+    let members = with_member(alloc, members, "total", count_or_null(total))?;
+    succeeded(alloc, members)
 }
 
+// The changes as a list.
 fn changes_json(alloc: Global, changes: &[Change]) -> Result<Json, AllocError>
     ensures { IfOk result (λ json. view json ≡ array (items_of (map change_data changes.now))) }
 {
@@ -182,60 +172,61 @@ fn changes_json(alloc: Global, changes: &[Change]) -> Result<Json, AllocError>
     Ok(Json::Array(list))
 }
 
+// A row as it is now, or a removal.
 #[tactic(auto, unfolding(crate::specs::Printed::change_data))]
 fn change_json(alloc: Global, change: &Change) -> Result<Json, AllocError>
     ensures { IfOk result (λ json. view json ≡ change_data change.now) }
 {
     match change {
-        Change::Row { row } => Ok(Json::Object(one_member(alloc, "row", row.to_json(alloc)?)?)),
-        Change::Removed { id, version } => {
-            let mut members = one_member(alloc, "removed", id.to_json(alloc)?)?;
-            add_member(
-                alloc,
-                &mut members,
-                "version",
-                version_json(alloc, *version)?,
-            )?;
-            Ok(Json::Object(members))
-        }
+        Change::Row { row } => one_json(alloc, "row", row.to_json(alloc)?),
+        Change::Removed { id, version } => removal_json(alloc, *id, *version),
     }
 }
 
-// What a list of changes says.
+// The id of a removed row with the version of its removal.
+#[tactic(auto, unfolding(crate::specs::Printed::change_data))]
+fn removal_json(alloc: Global, id: Id, version: u64) -> Result<Json, AllocError>
+    ensures { IfOk result (λ json. view json ≡ change_data (Change.Removed id version)) }
+{
+    let members = one_member(alloc, "removed", id.to_json(alloc)?)?;
+    let version = version_json(alloc, version)?;
+    Ok(Json::Object(with_member(alloc, members, "version", version)?))
+}
+
+// The reply of a list of changes.
 fn delta_json(
     alloc: Global,
-    changes: Json,
+    changes: &[Change],
     more: bool,
     token: Token,
-) -> Result<Map<String, Json>, AllocError>
-    ensures { IfOk result (λ members. members_view members.entries ≡ changes_members (view changes) more token) }
+) -> Result<Json, AllocError>
+    ensures { IfOk result (λ json. view json
+        ≡ ok (changes_members (list_data (map change_data changes.now)) more token)) }
 {
-    let mut members = one_member(alloc, "changes", changes)?;
-    add_member(alloc, &mut members, "more", Json::Bool(more))?;
-    add_member(alloc, &mut members, "token", token.to_json(alloc)?)?;
-    Ok(members)
+    let members = one_member(alloc, "changes", changes_json(alloc, changes)?)?;
+    let members = with_member(alloc, members, "more", Json::Bool(more))?;
+    let members = with_member(alloc, members, "token", token.to_json(alloc)?)?;
+    succeeded(alloc, members)
 }
 
-// What a calculated rollup says.
-fn rolled_json(alloc: Global, state: i32, value: &Raw) -> Result<Map<String, Json>, AllocError>
-    ensures { IfOk result (λ members. members_view members.entries ≡ rolled_members state value.now) }
+// The reply of a calculated rollup.
+fn rolled_json(alloc: Global, state: i32, value: &Raw) -> Result<Json, AllocError>
+    ensures { IfOk result (λ json. view json ≡ ok (rolled_members state value.now)) }
 {
-    let mut members = one_member(alloc, "state", Json::from(state))?;
-    add_member(alloc, &mut members, "value", value.to_json(alloc)?)?;
-    Ok(members)
+    let members = one_member(alloc, "state", Json::from(state))?;
+    succeeded(
+        alloc,
+        with_member(alloc, members, "value", value.to_json(alloc)?)?,
+    )
 }
 
-// What a caller is told of itself.
-fn caller_json(
-    alloc: Global,
-    user: Id,
-    unit: Id,
-    teams: Json,
-) -> Result<Map<String, Json>, AllocError>
-    ensures { IfOk result (λ members. members_view members.entries ≡ caller_members user unit (view teams)) }
+// The reply that tells a caller of itself.
+fn caller_json(alloc: Global, user: Id, unit: Id, teams: &[Id]) -> Result<Json, AllocError>
+    ensures { IfOk result (λ json. view json
+        ≡ ok (caller_members user unit (list_data (map id_data teams.now)))) }
 {
-    let mut members = one_member(alloc, "teams", teams)?;
-    add_member(alloc, &mut members, "unit", unit.to_json(alloc)?)?;
-    add_member(alloc, &mut members, "user", user.to_json(alloc)?)?;
-    Ok(members)
+    let members = one_member(alloc, "teams", ids_json(alloc, teams)?)?;
+    let members = with_member(alloc, members, "unit", unit.to_json(alloc)?)?;
+    let members = with_member(alloc, members, "user", user.to_json(alloc)?)?;
+    succeeded(alloc, members)
 }

@@ -3,6 +3,7 @@
 //! Callers may rely on this: each refusal has one number and one printed form, and its members say what it is about.
 #![tactic(auto)]
 
+mod details;
 mod refusal;
 mod what;
 

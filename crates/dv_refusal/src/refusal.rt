@@ -1,15 +1,16 @@
-ghost use Rattle.std.specs.Prelude.{◌≡◌, codes, IfOk};
-ghost use Rattle.serde_json.specs.Data.{put, member, no_members, number, unsigned};
+//! The refusals, each with its number, its HTTP status and its JSON.
+ghost use Rattle.std.specs.Prelude.{◌≡◌, IfOk};
 ghost use Rattle.serde_json.specs.View.{view, members_view};
-ghost use Rattle.dv_refusal.specs.Refusals.{details_of, refusal_members, refusal_data, number_of, http_status_of};
+ghost use Rattle.dv_refusal.specs.Refusals.{refusal_members, refusal_data, number_of, http_status_of};
 
 use crate::what::What;
-use dv_value::{Id, Text, add_member, version_json};
+use dv_value::{Id, Text, add_member};
 use serde_json::{Map, Value as Json};
 use std::alloc::{AllocError, Global};
+use std::fmt::{self, Debug, Formatter, Write};
 
 /// Why a request, a definition or a store isn't served. Each has a number, and its members say what it is about.
-#[derive(Debug, Drop)]
+#[derive(Drop)]
 pub enum Refusal {
     /// The definition isn't accepted: the kind of its first fault, and the fault's place.
     BadDefinition { kind: Text, place: Text },
@@ -104,6 +105,13 @@ pub enum Refusal {
     OutOfMemory,
     /// The request asks for a part of the service that isn't built yet.
     NotBuilt,
+}
+
+/// Shows the number alone.
+impl Debug for Refusal {
+    fn fmt<W: Write>(&self, f: &mut Formatter<W>) -> fmt::Result {
+        write!(f, "Refusal {}", self.number())
+    }
 }
 
 impl Refusal {
@@ -228,150 +236,4 @@ impl Refusal {
         add_member(alloc, &mut members, "nr", Json::from(self.number()))?;
         Ok(members)
     }
-
-    // The members that say what the refusal is about.
-    #[tactic(auto, unfolding(crate::specs::Refusals::details_of))]
-    fn details(&self, alloc: Global) -> Result<Map<String, Json>, AllocError>
-        ensures { IfOk result (λ members. members_view members.entries ≡ details_of self.now) }
-    {
-        match self {
-            Refusal::BadDefinition { kind, place } => Ok(two(
-                alloc,
-                "kind",
-                kind.to_json(alloc)?,
-                "place",
-                place.to_json(alloc)?,
-            )?),
-            Refusal::BadStore { key, sheet } => Ok(two(
-                alloc,
-                "key",
-                key.to_json(alloc)?,
-                "sheet",
-                Json::from(*sheet),
-            )?),
-            Refusal::Malformed { place } => Ok(one(alloc, "place", place.to_json(alloc)?)?),
-            Refusal::UnknownTable { table } | Refusal::NotShareable { table } => Ok(one(
-                alloc,
-                "table",
-                table.to_json(alloc)?,
-            )?),
-            Refusal::UnknownColumn { column }
-            | Refusal::WrongType { column }
-            | Refusal::NotWritable { column }
-            | Refusal::OutOfRange { column }
-            | Refusal::RequiredMissing { column } => Ok(one(
-                alloc,
-                "column",
-                column.to_json(alloc)?,
-            )?),
-            Refusal::Denied { privilege, why } => Ok(two(
-                alloc,
-                "privilege",
-                privilege.to_json(alloc)?,
-                "why",
-                why.to_json(alloc)?,
-            )?),
-            Refusal::NotFound { id, table } => Ok(two(
-                alloc,
-                "id",
-                id.to_json(alloc)?,
-                "table",
-                table.to_json(alloc)?,
-            )?),
-            Refusal::VersionDiffers { kept } => Ok(one(
-                alloc,
-                "kept",
-                version_json(alloc, *kept)?,
-            )?),
-            Refusal::Restricted { relationship } | Refusal::Circular { relationship } => Ok(one(
-                alloc,
-                "relationship",
-                relationship.to_json(alloc)?,
-            )?),
-            Refusal::StepFailed { code, step, text } => Ok(failed_step(alloc, *code, *step, text)?),
-            Refusal::StepTurns { step } => Ok(one(alloc, "step", Json::from(*step))?),
-            Refusal::BadQuery { kind, part } => Ok(two(
-                alloc,
-                "kind",
-                kind.to_json(alloc)?,
-                "part",
-                part.to_json(alloc)?,
-            )?),
-            Refusal::BadToken { counter } => Ok(one(
-                alloc,
-                "counter",
-                version_json(alloc, *counter)?,
-            )?),
-            Refusal::TokenExpired { floor } => Ok(one(
-                alloc,
-                "floor",
-                version_json(alloc, *floor)?,
-            )?),
-            Refusal::UnitRule { why } | Refusal::TeamRule { why } | Refusal::RoleRule { why } => Ok(
-                one(alloc, "why", why.to_json(alloc)?)?,
-            ),
-            Refusal::Limit { what } => Ok(one(alloc, "what", what.to_json(alloc)?)?),
-            Refusal::UnknownCaller
-            | Refusal::CallerDisabled
-            | Refusal::IdTaken
-            | Refusal::ReservedId
-            | Refusal::BadPrincipal
-            | Refusal::DepthExceeded
-            | Refusal::WorkLimit
-            | Refusal::AnswerLimit
-            | Refusal::BadCookie
-            | Refusal::TrackingOff
-            | Refusal::BatchLimit
-            | Refusal::NotNested
-            | Refusal::UnknownUnit
-            | Refusal::UnknownUser
-            | Refusal::UnknownTeam
-            | Refusal::UnknownRole
-            | Refusal::DirectoryIdTaken
-            | Refusal::LastAdmin
-            | Refusal::StoreFault
-            | Refusal::ClockFault
-            | Refusal::OutOfMemory
-            | Refusal::NotBuilt => Ok(Map::new(alloc)),
-        }
-    }
-}
-
-// An object of one member.
-fn one(alloc: Global, name: &str, value: Json) -> Result<Map<String, Json>, AllocError>
-    ensures { IfOk result (λ members. members_view members.entries ≡ member name.now (view value) no_members) }
-{
-    let mut members: Map<String, Json> = Map::new(alloc);
-    add_member(alloc, &mut members, name, value)?;
-    Ok(members)
-}
-
-// An object of two members.
-fn two(
-    alloc: Global,
-    first: &str,
-    value: Json,
-    second: &str,
-    other: Json,
-) -> Result<Map<String, Json>, AllocError>
-    ensures { IfOk result (λ members. members_view members.entries ≡ put second.now (view other) (member first.now (view value) no_members)) }
-{
-    let mut members = one(alloc, first, value)?;
-    add_member(alloc, &mut members, second, other)?;
-    Ok(members)
-}
-
-// What a failed step says.
-#[tactic(auto, unfolding(crate::specs::Refusals::details_of))]
-fn failed_step(
-    alloc: Global,
-    code: i32,
-    step: u32,
-    text: &Text,
-) -> Result<Map<String, Json>, AllocError>
-    ensures { IfOk result (λ members. members_view members.entries ≡ details_of (Refusal.StepFailed code step text.now)) }
-{
-    let mut members = two(alloc, "code", Json::from(code), "step", Json::from(step))?;
-    add_member(alloc, &mut members, "text", text.to_json(alloc)?)?;
-    Ok(members)
 }
