@@ -11,9 +11,13 @@ join_word Inner = codes "inner"
 join_word Left = codes "left"
 join_word Exists = codes "exists"
 
+-- the ways to join
+abbrev pub joins : List Join
+joins = Inner ∷ Left ∷ Exists ∷ []
+
 -- the way to join that a word says
 unfoldable pub join_of : List ℕ → Option Join
-join_of word = find (λ join. bytes_eq (join_word join) word) (Inner ∷ Left ∷ Exists ∷ [])
+join_of word = find (λ join. bytes_eq (join_word join) word) joins
 
 -- the word for an operator
 unfoldable pub operator_word : Operator → List ℕ

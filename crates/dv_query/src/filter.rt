@@ -1,3 +1,4 @@
+//! Filters: conditions on columns, joined by `and` or `or`.
 use crate::operator::Operator;
 use dv_value::{Raw, Text};
 use sqlite_items::Items;

@@ -1,7 +1,7 @@
 //! Queries as plain data: a table, the columns asked for, a filter, links to other tables, orders and a part.
 //!
-//! The layers above may rest on this: a query is what a caller wrote, with names as texts and values as JSON has
-//! them; each operator, each way to join has one word, by which it is read and written.
+//! Callers may rely on this: a query is what a caller wrote, with names as texts and values as JSON has them; each
+//! operator and each way to join has one word, by which it is read and written.
 #![tactic(auto)]
 
 mod filter;

@@ -1,3 +1,4 @@
+//! Links to other tables, and the ways to join them.
 ghost use Rattle.std.specs.Prelude.{◌≡◌};
 ghost use Rattle.dv_query.specs.Words.{join_word, join_of};
 

@@ -1,3 +1,4 @@
+//! The operators of conditions, and their words.
 ghost use Rattle.std.specs.Prelude.{◌≡◌};
 ghost use Rattle.dv_query.specs.Words.{operator_word, operator_of};
 

@@ -1,3 +1,4 @@
+//! Queries, the part of the answer that they ask for, and its order.
 use crate::filter::Filter;
 use crate::link::Link;
 use dv_value::{Names, Text};
