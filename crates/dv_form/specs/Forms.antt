@@ -1,4 +1,4 @@
--- What a JSON value may be asked to look like: the spelling of a value without parts, and the table of an object's members.
+-- What a JSON value may be asked to look like: the spelling of a value without parts, and the schema of an object.
 use Rattle.std.specs.Prelude.{ℕ, ℤ, List, Bool, Option}
 
 -- how a value without parts is spelled
@@ -17,7 +17,7 @@ pub data Spelling : Type 0 where
   a_version : Spelling
   a_token : Spelling
 
--- what a value looks like; an R names the table of an object
+-- what a value looks like; an R names the schema of an object
 pub data Form (R : Type 0) : Type 0 where
   value : Spelling → Form R
   raw_values : Form R
@@ -26,27 +26,27 @@ pub data Form (R : Type 0) : Type 0 where
   list_of : Form R → Option ℕ → Form R
   distinct_integers : Form R
 
--- what keeps a member from being given: another member is given, is a word, isn't an integer, or is the same id
-pub data Bar : Type 0 where
-  given : List ℕ → Bar
-  is_word : List ℕ → List ℕ → Bar
-  is_not_integer : List ℕ → ℤ → Bar
-  is_same_id : List ℕ → Bar
+-- what excludes a member: another member is given, is a word, isn't an integer, or is the same id
+pub data Exclusion : Type 0 where
+  given : List ℕ → Exclusion
+  is_word : List ℕ → List ℕ → Exclusion
+  is_not_integer : List ℕ → ℤ → Exclusion
+  is_same_id : List ℕ → Exclusion
 
--- a line of a table
+-- a line of a schema: a member
 pub record Member (R : Type 0) : Type 0 where
   pub name : List ℕ
   pub needed : Bool
   pub form : Form R
-  pub barred : List Bar
+  pub excluded_by : List Exclusion
 
 -- the further members under a word
 pub record Case (R : Type 0) : Type 0 where
   pub word : List ℕ
   pub members : List (Member R)
 
--- the table of an object: the members that it always has, and the member whose word says what further ones there are
-pub record Object (R : Type 0) : Type 0 where
+-- the schema of an object: the members that it always has, and the member whose word says what further ones there are
+pub record Schema (R : Type 0) : Type 0 where
   pub members : List (Member R)
   pub decided_by : Option (List ℕ)
   pub cases : List (Case R)

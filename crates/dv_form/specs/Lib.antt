@@ -1,8 +1,8 @@
 pub mod Forms
-pub mod Found
+pub mod LocalFaults
 pub mod Integers
 pub mod Members
 pub mod Places
 pub mod Spellings
-pub mod Tables
+pub mod Schemas
 pub mod Walk

@@ -1,7 +1,9 @@
 -- What is read of a JSON value: an id, a text, a flag or an integer that it is, or that the member of a name is.
-use Rattle.std.specs.Prelude.{ℕ, ℤ, pos, negsuc, List, [], ◌∷◌, ◌^◌, Bool, false, nat_lt, if◌then◌else◌, Option, option_map, option_and_then, unwrap_or, chars}
+use Prim.Native.String.{String}
+use Rattle.std.specs.Prelude.{ℕ, ℤ, pos, negsuc, List, [], ◌∷◌, ◌^◌, map, codes, Bool, false, nat_lt, if◌then◌else◌, Option, option_map, option_and_then, unwrap_or, chars}
 use Rattle.serde_json.specs.Data.{Data, null, boolean, number, string, array, object, Members, no_members, Items, no_items, item}
-use Rattle.serde_json.specs.Find.{as_str, as_bool, as_number, as_array, as_object, as_i64, as_u64}
+use Rattle.std.specs.Str.{bytes_eq}
+use Rattle.serde_json.specs.Find.{get, as_str, as_bool, as_number, as_array, as_object, as_i64, as_u64}
 use Rattle.dv_value.specs.Ids.{id_of}
 use Rattle.dv_value.specs.Raws.{values_of}
 use Rattle.dv_value.specs.declared.raw.Raw.{Raw}
@@ -28,7 +30,15 @@ members_in (string s) = no_members
 members_in (array ds) = no_members
 members_in (object ms) = ms
 
--- ---- what a value of a form is; for one of another form some value stands, which says nothing
+-- the value of a member, `null` where it is missing
+abbrev pub at : String → Data → Data
+at name d = unwrap_or (get (codes name) d) null
+
+-- whether a value is this word; what is no text is the empty word
+abbrev pub says : String → Data → Bool
+says word d = bytes_eq (unwrap_or (as_str d) []) (codes word)
+
+-- ---- what a value of a form is; what these give for a value of another form doesn't matter, since it is rejected first
 
 -- a truth value, else false
 unfoldable pub flag_of : Data → Bool
@@ -75,3 +85,7 @@ data_list (item d ds) = d ∷ data_list ds
 -- the items of a list, else none
 unfoldable pub list_of : Data → List Data
 list_of d = unwrap_or (option_map data_list (as_array d)) []
+
+-- the texts of a list of names
+abbrev pub names_of : Data → List (List ℕ)
+names_of d = map text_of (list_of d)

@@ -21,10 +21,14 @@ passes test (Some x) = test x
 unfoldable pub is_name_byte : ℕ → Bool
 is_name_byte c = is_ascii_lowercase c || is_ascii_digit c || c == 95
 
+-- the most bytes that a name has after its first
+abbrev pub longest_rest : ℕ
+longest_rest = 49
+
 -- a name is a letter a to z, and then at most 49 letters a to z, digits or `_`
 unfoldable pub is_name : List ℕ → Bool
 is_name [] = false
-is_name (c ∷ cs) = is_ascii_lowercase c && (nat_le (length cs) 49 && list_all is_name_byte cs)
+is_name (c ∷ cs) = is_ascii_lowercase c && (nat_le (length cs) longest_rest && list_all is_name_byte cs)
 
 -- both ends are included
 unfoldable pub is_between : ℤ → ℤ → ℤ → Bool

@@ -1,11 +1,13 @@
+//! The first fault of a value: its kind and its place.
+
 use dv_value::Text;
 
 /// What kind of fault a place has.
 #[derive(Clone, Copy, Debug, PartialEq, Eq)]
 pub enum FaultKind {
-    /// A member that its object's table doesn't list.
+    /// A member that its object's schema doesn't list.
     Unlisted,
-    /// A member that is missing or barred, or a value of another kind, spelling or range than its form.
+    /// A member that is missing or excluded, or a value of another kind, spelling or range than its form.
     Wrong,
     /// A list longer than it may be.
     TooLong,

@@ -1,16 +1,18 @@
+//! What an object must look like, as data: forms of values, members with their exclusions, schemas.
+
 ghost use Rattle.std.specs.Prelude.{◌≡◌};
-ghost use Rattle.dv_form.specs.Tables.{table_of};
+ghost use Rattle.dv_form.specs.Schemas.{schema_of};
 
 use crate::spelling::Spelling;
 
-/// What the value of a member, or an item of a list, must look like. `R` names the tables of objects.
+/// What the value of a member, or an item of a list, must look like. `R` names the schemas of objects.
 #[derive(Clone, Copy)]
 pub enum Form<R> {
     /// A value without parts.
     Value(Spelling),
     /// An object of raw values, under any names.
     RawValues,
-    /// An object by its table.
+    /// An object by its schema.
     Object(R),
     /// A list of as many values as there are spellings, each in its own.
     Tuple(&'static [Spelling]),
@@ -24,9 +26,9 @@ pub enum Form<R> {
     DistinctIntegers,
 }
 
-/// What keeps a member from being given beside another member of its object.
+/// What excludes a member: another member of its object.
 #[derive(Clone, Copy)]
-pub enum Bar {
+pub enum Exclusion {
     /// The member of this name is given too.
     Given(&'static str),
     /// The member of this name is this word.
@@ -37,15 +39,15 @@ pub enum Bar {
     IsSameId(&'static str),
 }
 
-/// A line of a table.
+/// A line of a schema: a member.
 #[derive(Clone, Copy)]
 pub struct Member<R> {
     pub name: &'static str,
     /// Whether the object must have it.
     pub needed: bool,
     pub form: Form<R>,
-    /// It may be given only where none of these holds.
-    pub barred: &'static [Bar],
+    /// It is excluded where one of these holds.
+    pub excluded_by: &'static [Exclusion],
 }
 
 /// The further members that an object has under a word.
@@ -55,9 +57,9 @@ pub struct Case<R: 'static> {
     pub members: &'static [Member<R>],
 }
 
-/// The table of an object.
+/// The schema of an object.
 #[derive(Drop)]
-pub struct Table<R: 'static> {
+pub struct Schema<R: 'static> {
     /// The members that it has in any case, in the order in which they are looked at.
     pub members: &'static [Member<R>],
     /// The member whose word says what further members there are.
@@ -65,12 +67,12 @@ pub struct Table<R: 'static> {
     pub cases: &'static [Case<R>],
 }
 
-/// A table for each kind of object. A grammar may lead back to itself.
+/// A schema for each kind of object. A grammar may lead back to itself.
 pub trait Grammar: Copy + 'static {
-    ghost use Rattle.dv_form.specs.Forms.{Object};
+    ghost use Rattle.dv_form.specs.Forms.{Schema};
 
-    ghost tables: { Self → Object Self };
+    ghost schemas: { Self → Schema Self };
 
-    fn table(self) -> Table<Self>
-        ensures { table_of result ≡ tables self };
+    fn schema(self) -> Schema<Self>
+        ensures { schema_of result ≡ schemas self };
 }

@@ -1,3 +1,5 @@
+//! The id and the integer that a JSON value is.
+
 ghost use Rattle.std.specs.Prelude.{◌≡◌};
 ghost use Rattle.serde_json.specs.View.{view};
 ghost use Rattle.dv_form.specs.Members as say;

@@ -1,6 +1,9 @@
-ghost use Rattle.std.specs.Prelude.{◌≡◌, map, option_map, unwrap_or, IfOk};
+//! Reading a JSON value of a known form: it is taken apart, member by member and item by item.
+
+ghost use Rattle.std.specs.Prelude.{◌≡◌, ℕ, List, false, map, option_map, unwrap_or, IfOk};
+ghost use Rattle.std.specs.Str.{bytes_eq};
 ghost use Rattle.serde_json.specs.Data.{null};
-ghost use Rattle.serde_json.specs.Find.{get_member};
+ghost use Rattle.serde_json.specs.Find.{get, get_member};
 ghost use Rattle.serde_json.specs.View.{view, members_view};
 ghost use Rattle.dv_value.specs.Json.{without};
 ghost use Rattle.dv_form.specs.Members as say;
@@ -10,8 +13,8 @@ use serde_json::{Map, Value as Json};
 use sqlite_items::Items;
 use std::alloc::{AllocError, Global};
 
-/// A type that is read from JSON of its form, which is taken apart: its texts are moved and not copied. What JSON of
-/// another form gives is of no account: it is refused before it is read.
+/// A type that is read from JSON of its form, which is taken apart: its texts are moved and not copied. JSON of
+/// another form is rejected before it is read, so what it gives doesn't matter.
 pub trait FromJson: Drop {
     ghost use Rattle.serde_json.specs.Data.{Data};
 
@@ -22,9 +25,11 @@ pub trait FromJson: Drop {
 }
 
 /// The members of an object. What isn't an object has none.
-#[tactic(auto, unfolding(crate::specs::Members::members_in))]
+#[tactic(auto, using(crate::proofs::Reading::taken), unfolding(crate::specs::Members::members_in))]
 pub fn members_of(alloc: Global, json: Json) -> Map<String, Json>
-    ensures { members_view result.entries ≡ say.members_in (view json) }
+    ensures members { members_view result.entries ≡ say.members_in (view json) }
+    ensures each { (name : List ℕ)
+        → get_member name (members_view result.entries) ≡ get name (view json) }
 {
     match json {
         Json::Object(members) => members,
@@ -33,13 +38,19 @@ pub fn members_of(alloc: Global, json: Json) -> Map<String, Json>
 }
 
 /// What a member is, which is taken out of its object. Where it is missing, what `null` is.
+#[tactic(auto, using(crate::proofs::Reading::taken))]
 pub fn take_at<T: FromJson>(
     alloc: Global,
     members: &mut Map<String, Json>,
     name: &str,
 ) -> Result<T, AllocError>
-    ensures value { IfOk result (λ value. value ≡ T.of_json (unwrap_or (get_member name.now (members_view members.old.entries)) null)) }
-    ensures rest { members_view members.new.entries ≡ without name.now (members_view members.old.entries) }
+    ensures value { IfOk result (λ value. value
+        ≡ T.of_json (unwrap_or (get_member name.now (members_view members.old.entries)) null)) }
+    ensures rest { members_view members.new.entries
+        ≡ without name.now (members_view members.old.entries) }
+    ensures others { (other : List ℕ) → bytes_eq other name.now ≡ false
+        → get_member other (members_view members.new.entries)
+        ≡ get_member other (members_view members.old.entries) }
 {
     match take_member(members, name) {
         Some(value) => T::from_json(alloc, value),
@@ -48,13 +59,19 @@ pub fn take_at<T: FromJson>(
 }
 
 /// What a member is, which is taken out of its object, where it is given.
+#[tactic(auto, using(crate::proofs::Reading::taken))]
 pub fn take_given<T: FromJson>(
     alloc: Global,
     members: &mut Map<String, Json>,
     name: &str,
 ) -> Result<Option<T>, AllocError>
-    ensures value { IfOk result (λ value. value ≡ option_map T.of_json (get_member name.now (members_view members.old.entries))) }
-    ensures rest { members_view members.new.entries ≡ without name.now (members_view members.old.entries) }
+    ensures value { IfOk result (λ value. value
+        ≡ option_map T.of_json (get_member name.now (members_view members.old.entries))) }
+    ensures rest { members_view members.new.entries
+        ≡ without name.now (members_view members.old.entries) }
+    ensures others { (other : List ℕ) → bytes_eq other name.now ≡ false
+        → get_member other (members_view members.new.entries)
+        ≡ get_member other (members_view members.old.entries) }
 {
     match take_member(members, name) {
         Some(value) => Ok(Some(T::from_json(alloc, value)?)),

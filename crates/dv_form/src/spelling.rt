@@ -1,13 +1,20 @@
-ghost use Rattle.std.specs.Prelude.{◌≡◌, int_le};
-ghost use Rattle.std.specs.List.{list_any};
+//! How a value without parts is spelled, and whether a JSON value is spelled so.
+
+ghost use Rattle.std.specs.Prelude.{◌≡◌, int_le, ◌&&◌, ◌==◌, nat_le, length, map};
+ghost use Rattle.std.specs.List.{list_any, list_all};
 ghost use Rattle.std.specs.Ordering.{int_eq};
 ghost use Rattle.serde_json.specs.View.{view};
 ghost use Rattle.dv_form.specs.Spellings as say;
-ghost use Rattle.dv_form.specs.Tables.{spelling_of};
+ghost use Rattle.dv_form.specs.Schemas.{spelling_of};
+ghost use Rattle.std.specs.Option.{is_some};
+ghost use Rattle.dv_value.specs.Raws.{raw_of};
 
 use crate::members::{id_in, integer_in};
 use dv_value::{Token, read_version};
 use serde_json::Value as Json;
+
+/// The most bytes that a name has after its first.
+const LONGEST_REST: usize = 49;
 
 /// How a value without parts is spelled.
 #[derive(Clone, Copy)]
@@ -34,7 +41,7 @@ pub enum Spelling {
     WordAmong(&'static [&'static str]),
     /// `null`, a truth value, an integer of 64 bits or a text.
     Raw,
-    /// A version: a number of 64 bits in decimal, as it is printed.
+    /// A version: an amount without decimals that is not below zero.
     Version,
     /// A token: a version, or two of them joined by `+`, the second below the first.
     Token,
@@ -51,14 +58,12 @@ pub fn is_name(text: &str) -> bool
     }
 }
 
-ghost use Rattle.std.specs.Prelude.{◌&&◌, ◌==◌, nat_le, length};
-ghost use Rattle.std.specs.List.{list_all};
-
 // Whether at most 49 bytes are each one that a name may have after its first.
 fn is_rest_of_name(rest: &[u8]) -> bool
-    ensures { result ≡ (nat_le (length rest.now) 49 && list_all say.is_name_byte rest.now) }
+    ensures { result ≡ (nat_le (length rest.now) say.longest_rest
+        && list_all say.is_name_byte rest.now) }
 {
-    rest.len() <= 49 && has_name_bytes(rest)
+    rest.len() <= LONGEST_REST && has_name_bytes(rest)
 }
 
 // Whether each byte is one that a name may have after its first.
@@ -83,8 +88,6 @@ fn is_among(words: &[&str], word: &str) -> bool
 {
     words.contains(&word)
 }
-
-ghost use Rattle.std.specs.Prelude.{map};
 
 impl Spelling {
     /// Whether a value is spelled so.
@@ -141,9 +144,6 @@ fn is_between(low: i64, high: i64, n: i64) -> bool
 {
     low <= n && n <= high
 }
-
-ghost use Rattle.std.specs.Option.{is_some};
-ghost use Rattle.dv_value.specs.Raws.{raw_of};
 
 /// Whether a value is raw.
 #[tactic(auto, unfolding(dv_value::specs::Raws::raw_of))]

@@ -1,28 +1,32 @@
+//! The walk over a JSON value that finds its first fault.
+
 ghost use Rattle.std.specs.Prelude.{◌≡◌, Some, map, option_map, IfOk};
 ghost use Rattle.serde_json.specs.View.{view, items_view, members_view};
 ghost use Rattle.dv_form.specs.Forms.{object_of, list_of};
-ghost use Rattle.dv_form.specs.Found.{found_of, fault_of};
+ghost use Rattle.dv_form.specs.LocalFaults.{local_of, fault_of};
 ghost use Rattle.dv_form.specs.Members.{members_in};
-ghost use Rattle.dv_form.specs.Tables.{form_of, member_of, table_of};
+ghost use Rattle.dv_form.specs.Schemas.{form_of, member_of, schema_of};
 ghost use Rattle.dv_form.specs.Walk as walk;
+ghost use Rattle.dv_form.specs.Places.{into_member};
 
 use crate::fault::{Fault, FaultKind};
-use crate::form::{Form, Grammar, Member, Table};
-use crate::found::Found;
+use crate::form::{Form, Grammar, Member, Schema};
+use crate::local_fault::LocalFault;
 use crate::parts::{distinct_fault, raw_values_fault, tuple_fault};
-use crate::table::{further, is_barred, unlisted_fault};
+use crate::schema::{further, is_excluded, unlisted_fault};
 use serde_json::Value as Json;
 use std::alloc::{AllocError, Global};
 
-/// The first fault of a JSON value as an object of a kind, by the tables of its grammar: in an object, first the
-/// members that its table doesn't list, in byte order; then the members of the table in its order, each missing,
-/// barred or not of its form, and inside each one its own parts.
+/// The first fault of a JSON value as an object of a kind, by the schemas of its grammar: in an object, first the
+/// members that its schema doesn't list, in byte order; then the members of the schema in its order, each missing,
+/// excluded or not of its form, and inside each one its own parts.
 pub fn first_fault<G: Grammar>(
     alloc: Global,
     json: &Json,
     kind: G,
 ) -> Result<Option<Fault>, AllocError>
-    ensures { IfOk result (λ fault. fault ≡ option_map fault_of (walk.first_fault G.tables (view json.now) (object_of kind))) }
+    ensures { IfOk result (λ fault. fault
+        ≡ option_map fault_of (walk.first_fault G.schemas (view json.now) (object_of kind))) }
 {
     match value_fault(alloc, json, &Form::Object(kind))? {
         Some(found) => Ok(Some(found.into_fault())),
@@ -36,8 +40,9 @@ fn value_fault<G: Grammar>(
     alloc: Global,
     json: &Json,
     form: &Form<G>,
-) -> Result<Option<Found>, AllocError>
-    ensures { IfOk result (λ found. found ≡ option_map found_of (walk.first_fault G.tables (view json.now) (form_of form.now))) }
+) -> Result<Option<LocalFault>, AllocError>
+    ensures { IfOk result (λ found. found
+        ≡ option_map local_of (walk.first_fault G.schemas (view json.now) (form_of form.now))) }
 {
     match form {
         Form::Value(spelling) => Ok(wrong_unless(alloc, spelling.admits(json))),
@@ -46,7 +51,7 @@ fn value_fault<G: Grammar>(
             None => Ok(wrong_unless(alloc, false)),
         },
         Form::Object(kind) => match json.as_object() {
-            Some(_) => object_fault(alloc, json, &kind.table()),
+            Some(_) => object_fault(alloc, json, &kind.schema()),
             None => Ok(wrong_unless(alloc, false)),
         },
         Form::Tuple(spellings) => match json.as_array() {
@@ -80,14 +85,15 @@ fn list_fault<G: Grammar>(
     json: &Json,
     form: &Form<G>,
     most: Option<usize>,
-) -> Result<Option<Found>, AllocError>
-    ensures { IfOk result (λ found. found ≡ option_map found_of (walk.first_fault G.tables (view json.now) (list_of (form_of form.now) most))) }
+) -> Result<Option<LocalFault>, AllocError>
+    ensures { IfOk result (λ found. found ≡ option_map local_of
+        (walk.first_fault G.schemas (view json.now) (list_of (form_of form.now) most))) }
 {
     match json.as_array() {
         Some(items) => {
             let items = items.as_slice();
             if is_over(most, items.len()) {
-                return Ok(Some(Found::here(alloc, FaultKind::TooLong)));
+                return Ok(Some(LocalFault::here(alloc, FaultKind::TooLong)));
             }
             items_fault(alloc, items, form)
         }
@@ -101,8 +107,9 @@ fn items_fault<G: Grammar>(
     alloc: Global,
     items: &[Json],
     form: &Form<G>,
-) -> Result<Option<Found>, AllocError>
-    ensures { IfOk result (λ found. found ≡ option_map found_of (walk.items_fault G.tables (items_view items.now) 0 (form_of form.now))) }
+) -> Result<Option<LocalFault>, AllocError>
+    ensures { IfOk result (λ found. found ≡ option_map local_of
+        (walk.items_fault G.schemas (items_view items.now) 0 (form_of form.now))) }
 {
     for (at, item) in items.iter().enumerate() {
         if let Some(found) = value_fault(alloc, item, form)? {
@@ -112,35 +119,40 @@ fn items_fault<G: Grammar>(
     Ok(None)
 }
 
-// The first fault of an object against its table.
+// The first fault of an object against its schema.
 #[cycle(walk)]
 fn object_fault<G: Grammar>(
     alloc: Global,
     json: &Json,
-    table: &Table<G>,
-) -> Result<Option<Found>, AllocError>
-    ensures { IfOk result (λ found. found ≡ option_map found_of (walk.object_fault (table_of table.now) (view json.now) (walk.fault_at G.tables (members_in (view json.now))))) }
+    schema: &Schema<G>,
+) -> Result<Option<LocalFault>, AllocError>
+    ensures { IfOk result (λ found. found ≡ option_map local_of
+        (walk.object_fault (schema_of schema.now) (view json.now)
+        (walk.fault_at G.schemas (members_in (view json.now))))) }
 {
-    let Some(more) = further(json, table) else {
-        return members_fault(alloc, json, table.members);
+    let Some(more) = further(json, schema) else {
+        return members_fault(alloc, json, schema.members);
     };
-    if let Some(found) = unlisted_fault(alloc, json, table.members, more)? {
+    if let Some(found) = unlisted_fault(alloc, json, schema.members, more)? {
         return Ok(Some(found));
     }
-    if let Some(found) = members_fault(alloc, json, table.members)? {
+    if let Some(found) = members_fault(alloc, json, schema.members)? {
         return Ok(Some(found));
     }
     members_fault(alloc, json, more)
 }
 
-// The first fault of the members of a table, in its order.
+// The first fault of the members of a schema, in its order.
 #[cycle(walk)]
 fn members_fault<G: Grammar>(
     alloc: Global,
     json: &Json,
     members: &[Member<G>],
-) -> Result<Option<Found>, AllocError>
-    ensures { IfOk result (λ found. found ≡ option_map found_of (walk.members_fault (view json.now) (walk.fault_at G.tables (members_in (view json.now))) (map member_of members.now))) }
+) -> Result<Option<LocalFault>, AllocError>
+    ensures { IfOk result (λ found. found ≡ option_map local_of
+        (walk.members_fault (view json.now)
+        (walk.fault_at G.schemas (members_in (view json.now)))
+        (map member_of members.now))) }
 {
     for member in members {
         if let Some(found) = member_fault(alloc, json, member)? {
@@ -150,18 +162,21 @@ fn members_fault<G: Grammar>(
     Ok(None)
 }
 
-// The first fault of one member of a table.
+// The first fault of one member of a schema.
 #[cycle(walk)]
 fn member_fault<G: Grammar>(
     alloc: Global,
     json: &Json,
     member: &Member<G>,
-) -> Result<Option<Found>, AllocError>
-    ensures { IfOk result (λ found. found ≡ option_map found_of (walk.member_fault (view json.now) (walk.fault_at G.tables (members_in (view json.now))) (member_of member.now))) }
+) -> Result<Option<LocalFault>, AllocError>
+    ensures { IfOk result (λ found. found ≡ option_map local_of
+        (walk.member_fault (view json.now)
+        (walk.fault_at G.schemas (members_in (view json.now)))
+        (member_of member.now))) }
 {
     match json.get(member.name) {
         Some(value) => {
-            if is_barred(json, value, member.barred) {
+            if is_excluded(json, value, member.excluded_by) {
                 return wrong_member(alloc, member.name);
             }
             match value_fault(alloc, value, &member.form)? {
@@ -180,22 +195,21 @@ fn member_fault<G: Grammar>(
 
 // A fault at a member itself.
 #[tactic(auto, unfolding(crate::specs::Places::path_text, crate::specs::Places::step_text, crate::specs::Places::is_named))]
-fn wrong_member(alloc: Global, name: &str) -> Result<Option<Found>, AllocError>
-    ensures { IfOk result (λ found. found ≡ option_map found_of (Some (walk.inside (into_member name.now) (walk.here FaultKind.Wrong)))) }
+fn wrong_member(alloc: Global, name: &str) -> Result<Option<LocalFault>, AllocError>
+    ensures { IfOk result (λ found. found ≡ option_map local_of
+        (Some (walk.inside (into_member name.now) (walk.here FaultKind.Wrong)))) }
 {
-    Ok(Some(Found::here(alloc, FaultKind::Wrong).inside_member(alloc, name)?))
+    Ok(Some(LocalFault::here(alloc, FaultKind::Wrong).inside_member(alloc, name)?))
 }
 
-ghost use Rattle.dv_form.specs.Places.{into_member};
-
 // A fault where a test fails.
-fn wrong_unless(alloc: Global, ok: bool) -> Option<Found>
-    ensures { result ≡ option_map found_of (walk.unless_holds ok) }
+fn wrong_unless(alloc: Global, ok: bool) -> Option<LocalFault>
+    ensures { result ≡ option_map local_of (walk.unless_holds ok) }
 {
     if ok {
         None
     } else {
-        Some(Found::here(alloc, FaultKind::Wrong))
+        Some(LocalFault::here(alloc, FaultKind::Wrong))
     }
 }
 

@@ -1,28 +1,32 @@
 -- The form of a definition, object by object: each member with its form, in the order in which they are looked at.
-use Rattle.std.specs.Prelude.{pos, negsuc, List, [], ◌∷◌, true, false, codes, Some, None}
+use Rattle.std.specs.Prelude.{ℕ, pos, List, [], ◌∷◌, ◌++◌, map, true, false, codes, Some, None}
 use Prim.Native.String.{String}
-use Rattle.dv_form.specs.Forms.{Spelling, real_id, any_id, a_name, a_name_or_star, a_flag, integer_from, integer_among, word_among, Form, value, raw_values, object_of, tuple_of, list_of, distinct_integers, Bar, is_word, is_not_integer, is_same_id, Member, Case, Object}
+use Rattle.dv_form.specs.Forms.{Spelling, real_id, any_id, a_name, a_name_or_star, a_flag, integer_from, integer_among, word_among, Form, value, raw_values, object_of, tuple_of, list_of, distinct_integers, Exclusion, is_word, is_not_integer, is_same_id, Member, Case, Schema}
+use Rattle.dv_schema.specs.Limits.{most_tables, most_columns, most_relationships, most_steps, most_units, most_roles, most_users, most_teams, most_members, longest_text, largest_scale, deepest, last_rank, last_step, least_short, greatest_short}
+use Rattle.dv_schema.specs.Words.{message_word, messages, cascade_word, cascades, delete_cascades, rollup_word, rollup_kinds, action_word, actions, type_word, types}
+use Rattle.dv_schema.specs.declared.column_type.ColumnType.{ColumnType}
+use Rattle.dv_schema.specs.declared.column_type.ColumnType.TheVariants as type
 use Rattle.dv_schema.specs.declared.grammar.Rule.{Rule}
 use Rattle.dv_schema.specs.declared.grammar.Rule.TheVariants.{Definition, Table, Column, Relationship, Registration, Unit, Role, User, Team}
 
 -- a member that must be there
 abbrev pub needs : String → Form Rule → Member Rule
-needs name form = record { name = codes name; needed = true; form = form; barred = [] }
+needs name form = record { name = codes name; needed = true; form = form; excluded_by = [] }
 
 -- a member that may be missing
 abbrev pub may : String → Form Rule → Member Rule
-may name form = record { name = codes name; needed = false; form = form; barred = [] }
+may name form = record { name = codes name; needed = false; form = form; excluded_by = [] }
 
 -- a member that must be there, and that may not be so
-abbrev pub needs_unless : String → Form Rule → List Bar → Member Rule
-needs_unless name form barred = record { name = codes name; needed = true; form = form; barred = barred }
+abbrev pub needs_unless : String → Form Rule → List Exclusion → Member Rule
+needs_unless name form excluded_by = record { name = codes name; needed = true; form = form; excluded_by = excluded_by }
 
 -- a member that may be missing, and that may not be there so
-abbrev pub may_unless : String → Form Rule → List Bar → Member Rule
-may_unless name form barred = record { name = codes name; needed = false; form = form; barred = barred }
+abbrev pub may_unless : String → Form Rule → List Exclusion → Member Rule
+may_unless name form excluded_by = record { name = codes name; needed = false; form = form; excluded_by = excluded_by }
 
 -- an object that always has the same members
-abbrev pub plain : List (Member Rule) → Object Rule
+abbrev pub plain : List (Member Rule) → Schema Rule
 plain members = record { members = members; decided_by = None; cases = [] }
 
 -- ids, as many as may be
@@ -35,70 +39,69 @@ names = list_of (value a_name) None
 
 -- the words of what is handed on to children
 abbrev pub cascade : Form Rule
-cascade = value (word_among (codes "nocascade" ∷ codes "cascade" ∷ codes "active" ∷ codes "userowned" ∷ []))
+cascade = value (word_among (map cascade_word cascades))
 
 -- an action, a table and a depth
 abbrev pub privilege : List Spelling
 privilege =
-    word_among (codes "Create" ∷ codes "Read" ∷ codes "Write" ∷ codes "Delete" ∷ codes "Append" ∷ codes "AppendTo" ∷ codes "Assign" ∷ codes "Share" ∷ codes "*" ∷ [])
+    word_among (map action_word actions ++ (codes "*" ∷ []))
     ∷ a_name_or_star
-    ∷ integer_from (pos 0) (pos 3)
+    ∷ integer_from (pos 0) deepest
     ∷ []
 
 -- an integer of 32 bits
 abbrev pub short : Form Rule
-short = value (integer_from (negsuc 2147483647) (pos 2147483647))
+short = value (integer_from least_short greatest_short)
 
 -- what a column has further, by its type
-abbrev pub by_type : List (Case Rule)
-by_type =
-    record { word = codes "flag"; members = [] }
-    ∷ record { word = codes "moment"; members = [] }
-    ∷ record { word = codes "lookup"; members = [] }
-    ∷ record { word = codes "whole"; members = may "min" short ∷ may "max" short ∷ [] }
-    ∷ record { word = codes "choice"; members = needs "options" distinct_integers ∷ [] }
-    ∷ record { word = codes "amount"; members = needs "scale" (value (integer_from (pos 0) (pos 4))) ∷ [] }
-    ∷ record { word = codes "text"; members = needs "max" (value (integer_from (pos 1) (pos 2000))) ∷ [] }
-    ∷ record {
-      word = codes "rollup";
-      members =
-          needs "kind" (value (word_among (codes "sum" ∷ codes "count" ∷ codes "min" ∷ codes "max" ∷ [])))
-          ∷ needs "over" (value a_name)
-          ∷ may "of" (value a_name)
-          ∷ may "active" (value a_flag)
-          ∷ [];
-    }
+abbrev pub members_for : ColumnType → List (Member Rule)
+members_for type.Flag = []
+members_for type.Moment = []
+members_for type.Lookup = []
+members_for type.Whole = may "min" short ∷ may "max" short ∷ []
+members_for type.Choice = needs "options" distinct_integers ∷ []
+members_for type.Amount = needs "scale" (value (integer_from (pos 0) largest_scale)) ∷ []
+members_for type.Text = needs "max" (value (integer_from (pos 1) longest_text)) ∷ []
+members_for type.Rollup =
+    needs "kind" (value (word_among (map rollup_word rollup_kinds)))
+    ∷ needs "over" (value a_name)
+    ∷ may "of" (value a_name)
+    ∷ may "active" (value a_flag)
     ∷ []
 
+-- the members of each type under its word
+abbrev pub by_type : List (Case Rule)
+by_type = map (λ t. record { word = type_word t; members = members_for t }) types
+
 -- the whole definition
-abbrev pub definition : Object Rule
+abbrev pub definition : Schema Rule
 definition = plain (
     needs "root" (value real_id)
     ∷ needs_unless "admin" (value real_id) (is_same_id (codes "root") ∷ [])
-    ∷ needs "tables" (list_of (object_of Table) (Some 100))
-    ∷ may "relationships" (list_of (object_of Relationship) (Some 300))
-    ∷ may "steps" (list_of (object_of Registration) (Some 500))
-    ∷ may "units" (list_of (object_of Unit) (Some 999))
-    ∷ may "roles" (list_of (object_of Role) (Some 500))
-    ∷ may "users" (list_of (object_of User) (Some 9999))
-    ∷ may "teams" (list_of (object_of Team) (Some 5000))
+    ∷ needs "tables" (list_of (object_of Table) (Some most_tables))
+    ∷ may "relationships" (list_of (object_of Relationship) (Some most_relationships))
+    ∷ may "steps" (list_of (object_of Registration) (Some most_steps))
+    ∷ may "units" (list_of (object_of Unit) (Some most_units))
+    ∷ may "roles" (list_of (object_of Role) (Some most_roles))
+    ∷ may "users" (list_of (object_of User) (Some most_users))
+    ∷ may "teams" (list_of (object_of Team) (Some most_teams))
     ∷ [])
 
 -- a table
-abbrev pub table : Object Rule
+abbrev pub table : Schema Rule
 table = plain (
     needs "name" (value a_name)
     ∷ needs "owned" (value (word_among (codes "user" ∷ codes "organization" ∷ [])))
     ∷ may "tracking" (value a_flag)
-    ∷ needs "columns" (list_of (object_of Column) (Some 60))
+    ∷ needs "columns" (list_of (object_of Column) (Some most_columns))
     ∷ [])
 
 -- a column
-abbrev pub column : Object Rule
+abbrev pub column : Schema Rule
 column = record {
   members =
       needs "name" (value a_name)
-      ∷ needs "type" (value (word_among (codes "flag" ∷ codes "moment" ∷ codes "lookup" ∷ codes "whole" ∷ codes "choice" ∷ codes "amount" ∷ codes "text" ∷ codes "rollup" ∷ [])))
+      ∷ needs "type" (value (word_among (map type_word types)))
       ∷ may "required" (value a_flag)
       ∷ [];
   decided_by = Some (codes "type");
@@ -106,7 +109,7 @@ column = record {
 }
 
 -- a relationship
-abbrev pub relationship : Object Rule
+abbrev pub relationship : Schema Rule
 relationship = plain (
     needs "name" (value a_name)
     ∷ needs "parent" (value a_name)
@@ -116,17 +119,17 @@ relationship = plain (
     ∷ may "share" cascade
     ∷ may "unshare" cascade
     ∷ may "reparent" cascade
-    ∷ may "delete" (value (word_among (codes "cascade" ∷ codes "removelink" ∷ codes "restrict" ∷ [])))
+    ∷ may "delete" (value (word_among (map cascade_word delete_cascades)))
     ∷ [])
 
--- a registration of a step; a create has no row before, and only after the effect, and not on a delete, is there a row after
-abbrev pub registration : Object Rule
+-- a registration of a step; there is no row before a create, and there is a row after only at stage 40, and never after a delete
+abbrev pub registration : Schema Rule
 registration = plain (
-    needs "step" (value (integer_from (pos 0) (pos 9223372036854775807)))
-    ∷ needs "message" (value (word_among (codes "create" ∷ codes "update" ∷ codes "delete" ∷ codes "assign" ∷ codes "grant" ∷ codes "modify" ∷ codes "revoke" ∷ [])))
+    needs "step" (value (integer_from (pos 0) last_step))
+    ∷ needs "message" (value (word_among (map message_word messages)))
     ∷ needs "table" (value a_name)
     ∷ needs "stage" (value (integer_among (pos 10 ∷ pos 20 ∷ pos 40 ∷ [])))
-    ∷ needs "rank" (value (integer_from (pos 0) (pos 1000000)))
+    ∷ needs "rank" (value (integer_from (pos 0) last_rank))
     ∷ may "columns" names
     ∷ may "as" (value any_id)
     ∷ may_unless "pre" names (is_word (codes "message") (codes "create") ∷ [])
@@ -135,11 +138,11 @@ registration = plain (
     ∷ [])
 
 -- a business unit
-abbrev pub unit : Object Rule
+abbrev pub unit : Schema Rule
 unit = plain (needs "id" (value any_id) ∷ needs "parent" (value any_id) ∷ [])
 
 -- a security role
-abbrev pub role : Object Rule
+abbrev pub role : Schema Rule
 role = plain (
     needs "id" (value any_id)
     ∷ needs "inheritance" (value (word_among (codes "team" ∷ codes "direct" ∷ [])))
@@ -148,27 +151,27 @@ role = plain (
     ∷ [])
 
 -- a user
-abbrev pub user : Object Rule
+abbrev pub user : Schema Rule
 user = plain (needs "id" (value any_id) ∷ needs "unit" (value any_id) ∷ may "roles" ids ∷ [])
 
 -- a team
-abbrev pub team : Object Rule
+abbrev pub team : Schema Rule
 team = plain (
     needs "id" (value any_id)
     ∷ needs "unit" (value any_id)
     ∷ needs "kind" (value (word_among (codes "owner" ∷ codes "access" ∷ [])))
-    ∷ may "members" (list_of (value any_id) (Some 100000))
+    ∷ may "members" (list_of (value any_id) (Some most_members))
     ∷ may "roles" ids
     ∷ [])
 
--- the table of each object
-unfoldable pub tables : Rule → Object Rule
-tables Definition = definition
-tables Table = table
-tables Column = column
-tables Relationship = relationship
-tables Registration = registration
-tables Unit = unit
-tables Role = role
-tables User = user
-tables Team = team
+-- the schema of each object
+unfoldable pub schemas : Rule → Schema Rule
+schemas Definition = definition
+schemas Table = table
+schemas Column = column
+schemas Relationship = relationship
+schemas Registration = registration
+schemas Unit = unit
+schemas Role = role
+schemas User = user
+schemas Team = team

@@ -6,3 +6,4 @@ pub mod Limits
 pub mod Names
 pub mod Places
 pub mod Reading
+pub mod Words

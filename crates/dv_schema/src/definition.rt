@@ -1,4 +1,7 @@
+//! An accepted definition.
+
 ghost use Rattle.std.specs.Prelude.{◌≡◌, ◌≤◌, length};
+ghost use Rattle.dv_schema.specs.Limits.{most_tables};
 
 use crate::opening::Opening;
 use crate::registration::Registration;
@@ -13,7 +16,7 @@ pub struct Definition {
     relationships: Items<Relationship>,
     steps: Items<Registration>,
     opening: Opening,
-    ghost few: { length tables ≤ 100 },
+    ghost few: { length tables ≤ most_tables },
 }
 
 impl Definition {
@@ -26,7 +29,7 @@ impl Definition {
         steps: Items<Registration>,
         opening: Opening,
     ) -> Definition
-        requires { length tables ≤ 100 }
+        requires { length tables ≤ most_tables }
         ensures tables { tables_of result ≡ tables }
         ensures relationships { relationships_of result ≡ relationships }
         ensures steps { steps_of result ≡ steps }

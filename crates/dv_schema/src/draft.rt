@@ -1,3 +1,5 @@
+//! What the text of a definition says, with names where the definition has numbers.
+
 use crate::opening::Opening;
 use crate::registration::Message;
 use crate::relationship::Cascade;

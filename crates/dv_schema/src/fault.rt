@@ -1,3 +1,5 @@
+//! Why a definition is rejected.
+
 use dv_value::Text;
 use std::alloc::AllocError;
 
@@ -26,7 +28,7 @@ pub enum DefKind {
     BadRollup,
     /// A registration names a step that isn't there.
     UnknownStep,
-    /// The opening directory is refused.
+    /// The opening directory is rejected.
     BadDirectory,
 }
 

@@ -1,3 +1,5 @@
+//! From the bytes of a definition to what they say, or to the first fault of their form.
+
 ghost use Rattle.std.specs.Prelude.{◌≡◌, Some, None, IfOk, IfErr};
 ghost use Rattle.serde_json.specs.View.{view};
 ghost use Rattle.dv_schema.specs.Form as say;
@@ -7,24 +9,23 @@ ghost use Rattle.dv_schema.specs.Reading.{draft_of};
 use crate::draft::Draft;
 use crate::fault::{DefFault, DefKind};
 use crate::grammar::Rule;
+use crate::limits::MAX_BYTES;
 use crate::reading::read_draft;
 use dv_form::{Fault, FaultKind, first_fault};
 use dv_value::{JsonFault, Text, read_json};
 use serde_json::Value as Json;
 use std::alloc::Global;
 
-/// The most bytes that a definition may have.
-const MAX_LEN: usize = 1_048_576;
-
 /// What a text says, or the first fault of its form.
 #[tactic(auto, unfolding(crate::specs::Form::form_fault, crate::specs::Form::fault_of_read, crate::specs::Form::draft_in))]
 pub fn read_form(alloc: Global, bytes: &[u8]) -> Result<Draft, DefFault>
-    ensures fault { IfErr result (λ fault. (fault ≡ DefFault.OutOfMemory → ⊥) → say.form_fault bytes.now ≡ Some fault) }
+    ensures fault { IfErr result (λ fault. (fault ≡ DefFault.OutOfMemory → ⊥)
+        → say.form_fault bytes.now ≡ Some fault) }
     ensures accepted { IfOk result (λ draft. say.form_fault bytes.now ≡ None) }
     ensures draft { IfOk result (λ draft. draft ≡ say.draft_in bytes.now) }
     ensures limits { IfOk result (λ draft. IsWithinLimits draft) }
 {
-    if bytes.len() > MAX_LEN {
+    if bytes.len() > MAX_BYTES {
         return Err(not_json(alloc));
     }
     match read_json(alloc, bytes) {
@@ -37,7 +38,8 @@ pub fn read_form(alloc: Global, bytes: &[u8]) -> Result<Draft, DefFault>
 // What a JSON value says, or the first fault of its form.
 #[tactic(auto, unfolding(crate::specs::Form::fault_in))]
 fn read_object(alloc: Global, json: Json) -> Result<Draft, DefFault>
-    ensures fault { IfErr result (λ fault. (fault ≡ DefFault.OutOfMemory → ⊥) → say.fault_in (view json) ≡ Some fault) }
+    ensures fault { IfErr result (λ fault. (fault ≡ DefFault.OutOfMemory → ⊥)
+        → say.fault_in (view json) ≡ Some fault) }
     ensures accepted { IfOk result (λ draft. say.fault_in (view json) ≡ None) }
     ensures draft { IfOk result (λ draft. draft ≡ draft_of (view json)) }
     ensures limits { IfOk result (λ draft. IsWithinLimits draft) }

@@ -1,8 +1,15 @@
-ghost use Rattle.std.specs.Prelude.{◌≡◌, [], None, map};
-ghost use Rattle.dv_form.specs.Tables.{member_of, table_of};
-ghost use Rattle.dv_schema.specs.Grammar.{tables};
+//! The form of a definition: the schema of each of its objects.
 
-use dv_form::{Bar, Case, Form, Grammar, Member, Spelling, Table};
+ghost use Rattle.std.specs.Prelude.{◌≡◌, [], None, map};
+ghost use Rattle.dv_form.specs.Schemas.{member_of, schema_of};
+ghost use Rattle.dv_schema.specs.Grammar.{schemas};
+
+use crate::limits::{
+    DEEPEST, GREATEST_SHORT, LARGEST_SCALE, LAST_RANK, LAST_STEP, LEAST_SHORT, LONGEST_TEXT,
+    MAX_COLUMNS, MAX_MEMBERS, MAX_RELATIONSHIPS, MAX_ROLES, MAX_STEPS, MAX_TABLES, MAX_TEAMS,
+    MAX_UNITS, MAX_USERS,
+};
+use dv_form::{Case, Exclusion, Form, Grammar, Member, Schema, Spelling};
 
 /// The objects of a definition.
 #[derive(Clone, Copy)]
@@ -19,24 +26,24 @@ pub enum Rule {
 }
 
 impl Grammar for Rule {
-    ghost use Rattle.dv_schema.specs.Grammar.{tables};
+    ghost use Rattle.dv_schema.specs.Grammar.{schemas};
 
-    ghost tables = { tables };
+    ghost schemas = { schemas };
 
-    fn table(self) -> Table<Rule> {
-        table_of_rule(self)
+    fn schema(self) -> Schema<Rule> {
+        schema_for(self)
     }
 }
 
-// The table of an object.
-#[tactic(auto, unfolding(crate::specs::Grammar::tables))]
-fn table_of_rule(rule: Rule) -> Table<Rule>
-    ensures { table_of result ≡ tables rule }
+// The schema of an object.
+#[tactic(auto, unfolding(crate::specs::Grammar::schemas, crate::specs::Words::message_word, crate::specs::Words::cascade_word, crate::specs::Words::rollup_word, crate::specs::Words::action_word, crate::specs::Words::type_word))]
+fn schema_for(rule: Rule) -> Schema<Rule>
+    ensures { schema_of result ≡ schemas rule }
 {
     match rule {
         Rule::Definition => plain(DEFINITION),
         Rule::Table => plain(TABLE),
-        Rule::Column => Table {
+        Rule::Column => Schema {
             members: COLUMN,
             decided_by: Some("type"),
             cases: BY_TYPE,
@@ -51,36 +58,40 @@ fn table_of_rule(rule: Rule) -> Table<Rule>
 }
 
 // An object that always has the same members.
-const fn plain(members: &'static [Member<Rule>]) -> Table<Rule>
-    ensures { table_of result ≡ record { members = map member_of members.now; decided_by = None; cases = [] } }
+const fn plain(members: &'static [Member<Rule>]) -> Schema<Rule>
+    ensures { schema_of result ≡ record {
+      members = map member_of members.now;
+      decided_by = None;
+      cases = [];
+    } }
 {
-    Table {
+    Schema {
         members,
         decided_by: None,
         cases: &[],
     }
 }
 
-// A member that must be there, unless something bars it.
+// A member that must be there, unless something excludes it.
 macro_rules! needs {
-    ($name:literal, $form:expr $(, unless $($bar:expr),+)?) => {
+    ($name:literal, $form:expr $(, unless $($exclusion:expr),+)?) => {
         Member {
             name: $name,
             needed: true,
             form: $form,
-            barred: &[$($($bar),+)?],
+            excluded_by: &[$($($exclusion),+)?],
         }
     };
 }
 
-// A member that may be missing, and that may not be there where something bars it.
+// A member that may be missing, and that must not be there where something excludes it.
 macro_rules! may {
-    ($name:literal, $form:expr $(, unless $($bar:expr),+)?) => {
+    ($name:literal, $form:expr $(, unless $($exclusion:expr),+)?) => {
         Member {
             name: $name,
             needed: false,
             form: $form,
-            barred: &[$($($bar),+)?],
+            excluded_by: &[$($($exclusion),+)?],
         }
     };
 }
@@ -88,17 +99,17 @@ macro_rules! may {
 // The whole definition.
 const DEFINITION: &[Member<Rule>] = &[
     needs!("root", Form::Value(Spelling::RealId)),
-    needs!("admin", Form::Value(Spelling::RealId), unless Bar::IsSameId("root")),
-    needs!("tables", Form::Objects(Rule::Table, Some(100))),
+    needs!("admin", Form::Value(Spelling::RealId), unless Exclusion::IsSameId("root")),
+    needs!("tables", Form::Objects(Rule::Table, Some(MAX_TABLES))),
     may!(
         "relationships",
-        Form::Objects(Rule::Relationship, Some(300))
+        Form::Objects(Rule::Relationship, Some(MAX_RELATIONSHIPS))
     ),
-    may!("steps", Form::Objects(Rule::Registration, Some(500))),
-    may!("units", Form::Objects(Rule::Unit, Some(999))),
-    may!("roles", Form::Objects(Rule::Role, Some(500))),
-    may!("users", Form::Objects(Rule::User, Some(9_999))),
-    may!("teams", Form::Objects(Rule::Team, Some(5_000))),
+    may!("steps", Form::Objects(Rule::Registration, Some(MAX_STEPS))),
+    may!("units", Form::Objects(Rule::Unit, Some(MAX_UNITS))),
+    may!("roles", Form::Objects(Rule::Role, Some(MAX_ROLES))),
+    may!("users", Form::Objects(Rule::User, Some(MAX_USERS))),
+    may!("teams", Form::Objects(Rule::Team, Some(MAX_TEAMS))),
 ];
 
 // A table.
@@ -109,7 +120,7 @@ const TABLE: &[Member<Rule>] = &[
         Form::Value(Spelling::WordAmong(&["user", "organization"]))
     ),
     may!("tracking", Form::Value(Spelling::Flag)),
-    needs!("columns", Form::Objects(Rule::Column, Some(60))),
+    needs!("columns", Form::Objects(Rule::Column, Some(MAX_COLUMNS))),
 ];
 
 // A column, whatever its type.
@@ -142,7 +153,7 @@ const RELATIONSHIP: &[Member<Rule>] = &[
 
 // A registration of a step.
 const REGISTRATION: &[Member<Rule>] = &[
-    needs!("step", Form::Value(Spelling::IntegerFrom(0, i64::MAX))),
+    needs!("step", Form::Value(Spelling::IntegerFrom(0, LAST_STEP))),
     needs!(
         "message",
         Form::Value(Spelling::WordAmong(&[
@@ -151,11 +162,15 @@ const REGISTRATION: &[Member<Rule>] = &[
     ),
     needs!("table", Form::Value(Spelling::Name)),
     needs!("stage", Form::Value(Spelling::IntegerAmong(&[10, 20, 40]))),
-    needs!("rank", Form::Value(Spelling::IntegerFrom(0, 1_000_000))),
+    needs!("rank", Form::Value(Spelling::IntegerFrom(0, LAST_RANK))),
     may!("columns", Form::Values(Spelling::Name, None)),
     may!("as", Form::Value(Spelling::Id)),
-    may!("pre", Form::Values(Spelling::Name, None), unless Bar::IsWord("message", "create")),
-    may!("post", Form::Values(Spelling::Name, None), unless Bar::IsNotInteger("stage", 40), Bar::IsWord("message", "delete")),
+    may!("pre", Form::Values(Spelling::Name, None), unless Exclusion::IsWord("message", "create")),
+    may!(
+        "post",
+        Form::Values(Spelling::Name, None),
+        unless Exclusion::IsNotInteger("stage", 40), Exclusion::IsWord("message", "delete")
+    ),
     may!("config", Form::RawValues),
 ];
 
@@ -191,7 +206,7 @@ const TEAM: &[Member<Rule>] = &[
         "kind",
         Form::Value(Spelling::WordAmong(&["owner", "access"]))
     ),
-    may!("members", Form::Values(Spelling::Id, Some(100_000))),
+    may!("members", Form::Values(Spelling::Id, Some(MAX_MEMBERS))),
     may!("roles", Form::Values(Spelling::Id, None)),
 ];
 
@@ -204,7 +219,7 @@ const PRIVILEGE: &[Spelling] = &[
         "Create", "Read", "Write", "Delete", "Append", "AppendTo", "Assign", "Share", "*",
     ]),
     Spelling::NameOrStar,
-    Spelling::IntegerFrom(0, 3),
+    Spelling::IntegerFrom(0, DEEPEST),
 ];
 
 // What a column has further, by its type.
@@ -226,11 +241,11 @@ const BY_TYPE: &[Case<Rule>] = &[
         members: &[
             may!(
                 "min",
-                Form::Value(Spelling::IntegerFrom(-2_147_483_648, 2_147_483_647))
+                Form::Value(Spelling::IntegerFrom(LEAST_SHORT, GREATEST_SHORT))
             ),
             may!(
                 "max",
-                Form::Value(Spelling::IntegerFrom(-2_147_483_648, 2_147_483_647))
+                Form::Value(Spelling::IntegerFrom(LEAST_SHORT, GREATEST_SHORT))
             ),
         ],
     },
@@ -240,11 +255,14 @@ const BY_TYPE: &[Case<Rule>] = &[
     },
     Case {
         word: "amount",
-        members: &[needs!("scale", Form::Value(Spelling::IntegerFrom(0, 4)))],
+        members: &[needs!(
+            "scale",
+            Form::Value(Spelling::IntegerFrom(0, LARGEST_SCALE))
+        )],
     },
     Case {
         word: "text",
-        members: &[needs!("max", Form::Value(Spelling::IntegerFrom(1, 2_000)))],
+        members: &[needs!("max", Form::Value(Spelling::IntegerFrom(1, LONGEST_TEXT)))],
     },
     Case {
         word: "rollup",

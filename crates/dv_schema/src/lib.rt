@@ -6,11 +6,13 @@
 //! the first fault of its form is told with its place. Whether the names of a draft agree is judged above.
 #![tactic(auto)]
 
+mod column_type;
 mod definition;
 mod draft;
 mod fault;
 mod form;
 mod grammar;
+mod limits;
 mod opening;
 mod place;
 mod reading;

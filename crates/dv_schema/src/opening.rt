@@ -1,3 +1,8 @@
+//! The directory that a new organisation begins with, and the security roles of a definition or a message.
+
+ghost use Rattle.std.specs.Prelude.{◌≡◌};
+ghost use Rattle.dv_schema.specs.Words.{action_word, action_of};
+
 use dv_value::{Id, Text};
 use sqlite_items::Items;
 
@@ -12,6 +17,48 @@ pub enum Action {
     AppendTo,
     Assign,
     Share,
+}
+
+impl Action {
+    /// The actions.
+    pub const ALL: [Action; 8] = [
+        Action::Create,
+        Action::Read,
+        Action::Write,
+        Action::Delete,
+        Action::Append,
+        Action::AppendTo,
+        Action::Assign,
+        Action::Share,
+    ];
+
+    /// The word for it.
+    #[tactic(auto, unfolding(crate::specs::Words::action_word))]
+    pub fn word(self) -> &'static str
+        ensures { result.now ≡ action_word self }
+    {
+        match self {
+            Action::Create => "Create",
+            Action::Read => "Read",
+            Action::Write => "Write",
+            Action::Delete => "Delete",
+            Action::Append => "Append",
+            Action::AppendTo => "AppendTo",
+            Action::Assign => "Assign",
+            Action::Share => "Share",
+        }
+    }
+
+    /// The action that a word says.
+    #[tactic(auto, unfolding(crate::specs::Words::action_of))]
+    pub fn parse(word: &str) -> Option<Action>
+        ensures { result ≡ action_of word.now }
+    {
+        Action::ALL
+            .iter()
+            .copied()
+            .find(|action| action.word() == word)
+    }
 }
 
 /// A privilege of a role, as a definition or a message has it.

@@ -1,3 +1,5 @@
+//! The place of a fault: an item of a list of the definition.
+
 ghost use Rattle.std.specs.Prelude.{◌≡◌, ◌++◌, chars, codes, string_bytes, IfOk};
 ghost use Rattle.dv_schema.specs.Places.{item_path, path_of};
 
@@ -49,7 +51,8 @@ fn item_path(alloc: Global, list: &str, i: usize) -> Result<String, AllocError>
 }
 
 fn column_path(alloc: Global, i: usize, j: usize) -> Result<String, AllocError>
-    ensures { IfOk result (λ text. string_bytes text ≡ item_path (codes "tables") i ++ item_path (codes ".columns") j) }
+    ensures { IfOk result (λ text. string_bytes text
+        ≡ item_path (codes "tables") i ++ item_path (codes ".columns") j) }
 {
     let mut path = item_path(alloc, "tables", i)?;
     let column = item_path(alloc, ".columns", j)?;

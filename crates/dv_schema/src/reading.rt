@@ -1,7 +1,14 @@
-ghost use Rattle.std.specs.Prelude.{◌≡◌, IfOk};
+//! Reading JSON of the right form: each object as what it says.
+
+ghost use Rattle.std.specs.Prelude.{◌≡◌, [], unwrap_or, IfOk};
+ghost use Rattle.std.specs.Str.{bytes_eq};
+ghost use Rattle.serde_json.specs.Data.{object};
+ghost use Rattle.serde_json.specs.Find.{as_str};
 ghost use Rattle.serde_json.specs.View.{view, members_view};
+ghost use Rattle.dv_form.specs.Members.{at, natural_below};
 ghost use Rattle.dv_schema.specs.Reading as say;
 
+use crate::column_type::ColumnType;
 use crate::draft::{
     Draft, DraftColumn, DraftForm, DraftRegistration, DraftRelationship, DraftRollup, DraftTable,
 };
@@ -9,13 +16,13 @@ use crate::opening::{Action, Entry, Opening, OpeningTeam, OpeningUnit, OpeningUs
 use crate::registration::Message;
 use crate::relationship::Cascade;
 use crate::table::RollupKind;
-use dv_form::{FromJson, byte_of, members_of, says_at, take_at, take_given};
+use dv_form::{FromJson, byte_of, members_of, says_at, take_at, take_given, text_at};
 use dv_value::{Kind, Text};
 use serde_json::{Map, Value as Json};
 use std::alloc::{AllocError, Global};
 
 /// What a text of a definition's form says.
-#[tactic(auto, using(dv_form::proofs::Reading::taken), unfolding(crate::specs::Reading::draft_of, crate::specs::Reading::opening_of))]
+#[tactic(auto, unfolding(crate::specs::Reading::draft_of, crate::specs::Reading::opening_of))]
 pub fn read_draft(alloc: Global, json: Json) -> Result<Draft, AllocError>
     ensures { IfOk result (λ draft. draft ≡ say.draft_of (view json)) }
 {
@@ -29,9 +36,10 @@ pub fn read_draft(alloc: Global, json: Json) -> Result<Draft, AllocError>
 }
 
 // The opening directory of a definition.
-#[tactic(auto, using(dv_form::proofs::Reading::taken), unfolding(crate::specs::Reading::opening_of))]
+#[tactic(auto, unfolding(crate::specs::Reading::opening_of))]
 fn read_opening(alloc: Global, members: &mut Map<String, Json>) -> Result<Opening, AllocError>
-    ensures { IfOk result (λ opening. opening ≡ say.opening_of (object (members_view members.old.entries))) }
+    ensures { IfOk result (λ opening. opening
+        ≡ say.opening_of (object (members_view members.old.entries))) }
 {
     Ok(Opening {
         root: take_at(alloc, members, "root")?,
@@ -48,7 +56,7 @@ impl FromJson for DraftTable {
 
     ghost of_json = { table_of };
 
-    #[tactic(auto, using(dv_form::proofs::Reading::taken), unfolding(crate::specs::Reading::table_of))]
+    #[tactic(auto, unfolding(crate::specs::Reading::table_of))]
     fn from_json(alloc: Global, json: Json) -> Result<DraftTable, AllocError> {
         let mut members = members_of(alloc, json);
         Ok(DraftTable {
@@ -65,7 +73,7 @@ impl FromJson for DraftColumn {
 
     ghost of_json = { column_of };
 
-    #[tactic(auto, using(dv_form::proofs::Reading::taken), unfolding(crate::specs::Reading::column_of, crate::specs::Reading::form_of, crate::specs::Reading::whole_of, crate::specs::Reading::rollup_of))]
+    #[tactic(auto, unfolding(crate::specs::Reading::column_of, crate::specs::Reading::form_for, crate::specs::Reading::whole_of, crate::specs::Reading::rollup_of))]
     fn from_json(alloc: Global, json: Json) -> Result<DraftColumn, AllocError> {
         let mut members = members_of(alloc, json);
         Ok(DraftColumn {
@@ -81,7 +89,7 @@ impl FromJson for DraftRelationship {
 
     ghost of_json = { relationship_of };
 
-    #[tactic(auto, using(dv_form::proofs::Reading::taken), unfolding(crate::specs::Reading::relationship_of))]
+    #[tactic(auto, unfolding(crate::specs::Reading::relationship_of))]
     fn from_json(alloc: Global, json: Json) -> Result<DraftRelationship, AllocError> {
         let mut members = members_of(alloc, json);
         let delete: Option<Cascade> = take_given(alloc, &mut members, "delete")?;
@@ -104,7 +112,7 @@ impl FromJson for DraftRegistration {
 
     ghost of_json = { registration_of };
 
-    #[tactic(auto, using(dv_form::proofs::Reading::taken), unfolding(crate::specs::Reading::registration_of))]
+    #[tactic(auto, unfolding(crate::specs::Reading::registration_of))]
     fn from_json(alloc: Global, json: Json) -> Result<DraftRegistration, AllocError> {
         let mut members = members_of(alloc, json);
         Ok(DraftRegistration {
@@ -127,7 +135,7 @@ impl FromJson for Role {
 
     ghost of_json = { role_of };
 
-    #[tactic(auto, using(dv_form::proofs::Reading::taken), unfolding(crate::specs::Reading::role_of))]
+    #[tactic(auto, unfolding(crate::specs::Reading::role_of))]
     fn from_json(alloc: Global, json: Json) -> Result<Role, AllocError> {
         let mut members = members_of(alloc, json);
         Ok(Role {
@@ -144,7 +152,7 @@ impl FromJson for OpeningUnit {
 
     ghost of_json = { unit_of };
 
-    #[tactic(auto, using(dv_form::proofs::Reading::taken), unfolding(crate::specs::Reading::unit_of))]
+    #[tactic(auto, unfolding(crate::specs::Reading::unit_of))]
     fn from_json(alloc: Global, json: Json) -> Result<OpeningUnit, AllocError> {
         let mut members = members_of(alloc, json);
         Ok(OpeningUnit {
@@ -159,7 +167,7 @@ impl FromJson for OpeningUser {
 
     ghost of_json = { user_of };
 
-    #[tactic(auto, using(dv_form::proofs::Reading::taken), unfolding(crate::specs::Reading::user_of))]
+    #[tactic(auto, unfolding(crate::specs::Reading::user_of))]
     fn from_json(alloc: Global, json: Json) -> Result<OpeningUser, AllocError> {
         let mut members = members_of(alloc, json);
         Ok(OpeningUser {
@@ -175,7 +183,7 @@ impl FromJson for OpeningTeam {
 
     ghost of_json = { team_of };
 
-    #[tactic(auto, using(dv_form::proofs::Reading::taken), unfolding(crate::specs::Reading::team_of))]
+    #[tactic(auto, unfolding(crate::specs::Reading::team_of))]
     fn from_json(alloc: Global, json: Json) -> Result<OpeningTeam, AllocError> {
         let mut members = members_of(alloc, json);
         Ok(OpeningTeam {
@@ -189,117 +197,56 @@ impl FromJson for OpeningTeam {
 }
 
 impl FromJson for Message {
-    ghost use Rattle.dv_schema.specs.Reading.{message_of};
+    ghost use Rattle.dv_schema.specs.Reading.{message_in};
 
-    ghost of_json = { message_of };
+    ghost of_json = { message_in };
 
+    #[tactic(auto, unfolding(crate::specs::Reading::message_in))]
     fn from_json(_alloc: Global, json: Json) -> Result<Message, AllocError> {
-        Ok(message_of(&json))
-    }
-}
-
-// The word as what it stands for.
-#[tactic(auto, unfolding(crate::specs::Reading::message_of))]
-fn message_of(json: &Json) -> Message
-    ensures { result ≡ say.message_of (view json.now) }
-{
-    if says(json, "create") {
-        Message::Create
-    } else if says(json, "update") {
-        Message::Update
-    } else if says(json, "delete") {
-        Message::Delete
-    } else if says(json, "assign") {
-        Message::Assign
-    } else if says(json, "grant") {
-        Message::Grant
-    } else if says(json, "modify") {
-        Message::Modify
-    } else {
-        Message::Revoke
+        Ok(
+            json.as_str()
+                .and_then(Message::parse)
+                .unwrap_or(Message::Revoke),
+        )
     }
 }
 
 impl FromJson for Cascade {
-    ghost use Rattle.dv_schema.specs.Reading.{cascade_of};
+    ghost use Rattle.dv_schema.specs.Reading.{cascade_in};
 
-    ghost of_json = { cascade_of };
+    ghost of_json = { cascade_in };
 
+    #[tactic(auto, unfolding(crate::specs::Reading::cascade_in))]
     fn from_json(_alloc: Global, json: Json) -> Result<Cascade, AllocError> {
-        Ok(cascade_of(&json))
-    }
-}
-
-// The word as what it stands for.
-#[tactic(auto, unfolding(crate::specs::Reading::cascade_of))]
-fn cascade_of(json: &Json) -> Cascade
-    ensures { result ≡ say.cascade_of (view json.now) }
-{
-    if says(json, "cascade") {
-        Cascade::Cascade
-    } else if says(json, "active") {
-        Cascade::Active
-    } else if says(json, "userowned") {
-        Cascade::UserOwned
-    } else if says(json, "removelink") {
-        Cascade::RemoveLink
-    } else if says(json, "restrict") {
-        Cascade::Restrict
-    } else {
-        Cascade::NoCascade
+        Ok(
+            json.as_str()
+                .and_then(Cascade::parse)
+                .unwrap_or(Cascade::NoCascade),
+        )
     }
 }
 
 impl FromJson for RollupKind {
-    ghost use Rattle.dv_schema.specs.Reading.{rollup_kind_of};
+    ghost use Rattle.dv_schema.specs.Reading.{rollup_kind_in};
 
-    ghost of_json = { rollup_kind_of };
+    ghost of_json = { rollup_kind_in };
 
+    #[tactic(auto, unfolding(crate::specs::Reading::rollup_kind_in))]
     fn from_json(_alloc: Global, json: Json) -> Result<RollupKind, AllocError> {
-        Ok(rollup_kind_of(&json))
+        Ok(
+            json.as_str()
+                .and_then(RollupKind::parse)
+                .unwrap_or(RollupKind::Max),
+        )
     }
 }
 
-// The word as what it stands for.
-#[tactic(auto, unfolding(crate::specs::Reading::rollup_kind_of))]
-fn rollup_kind_of(json: &Json) -> RollupKind
-    ensures { result ≡ say.rollup_kind_of (view json.now) }
+// The action that a value says. None for every action.
+#[tactic(auto, unfolding(crate::specs::Reading::action_in))]
+fn action_in(json: &Json) -> Option<Action>
+    ensures { result ≡ say.action_in (view json.now) }
 {
-    if says(json, "sum") {
-        RollupKind::Sum
-    } else if says(json, "count") {
-        RollupKind::Count
-    } else if says(json, "min") {
-        RollupKind::Min
-    } else {
-        RollupKind::Max
-    }
-}
-
-// The action of a privilege. None for every action.
-#[tactic(auto, unfolding(crate::specs::Reading::action_of))]
-fn action_of(json: &Json) -> Option<Action>
-    ensures { result ≡ say.action_of (view json.now) }
-{
-    if says(json, "Create") {
-        Some(Action::Create)
-    } else if says(json, "Read") {
-        Some(Action::Read)
-    } else if says(json, "Write") {
-        Some(Action::Write)
-    } else if says(json, "Delete") {
-        Some(Action::Delete)
-    } else if says(json, "Append") {
-        Some(Action::Append)
-    } else if says(json, "AppendTo") {
-        Some(Action::AppendTo)
-    } else if says(json, "Assign") {
-        Some(Action::Assign)
-    } else if says(json, "Share") {
-        Some(Action::Share)
-    } else {
-        None
-    }
+    json.as_str().and_then(Action::parse)
 }
 
 // The table of a privilege. None for every table.
@@ -317,17 +264,11 @@ fn read_entry_table(alloc: Global, json: &Json) -> Result<Option<Text>, AllocErr
 }
 
 // Whether a value is a word.
-#[tactic(auto, unfolding(crate::specs::Reading::says))]
 fn says(json: &Json, word: &str) -> bool
     ensures { result ≡ bytes_eq (unwrap_or (as_str (view json.now)) []) word.now }
 {
     json.as_str().unwrap_or("") == word
 }
-
-ghost use Rattle.std.specs.Prelude.{[], unwrap_or};
-ghost use Rattle.std.specs.Str.{bytes_eq};
-ghost use Rattle.serde_json.specs.Data.{object};
-ghost use Rattle.serde_json.specs.Find.{as_str};
 
 impl FromJson for Entry {
     ghost use Rattle.dv_schema.specs.Reading.{entry_of};
@@ -346,11 +287,11 @@ impl FromJson for Entry {
 
 // The action of a privilege.
 fn entry_action(json: &Json) -> Option<Action>
-    ensures { result ≡ say.action_of (say.item_at 0 (view json.now)) }
+    ensures { result ≡ say.action_in (say.item_at 0 (view json.now)) }
 {
     match json.get(0) {
-        Some(item) => action_of(item),
-        None => action_of(&Json::Null),
+        Some(item) => action_in(item),
+        None => action_in(&Json::Null),
     }
 }
 
@@ -374,39 +315,60 @@ fn entry_depth(json: &Json) -> u8
     }
 }
 
-ghost use Rattle.dv_form.specs.Members.{natural_below};
-
 // What a column's type says.
-#[tactic(auto, using(dv_form::proofs::Reading::taken), unfolding(crate::specs::Reading::form_of, crate::specs::Reading::rollup_of))]
 fn read_form(alloc: Global, members: &mut Map<String, Json>) -> Result<DraftForm, AllocError>
     ensures { IfOk result (λ form. form ≡ say.form_of (object (members_view members.old.entries))) }
 {
-    if says_at(members, "type", "flag") {
-        Ok(DraftForm::Plain(Kind::Flag))
-    } else if says_at(members, "type", "moment") {
-        Ok(DraftForm::Plain(Kind::Moment))
-    } else if says_at(members, "type", "lookup") {
-        Ok(DraftForm::Lookup)
-    } else if says_at(members, "type", "whole") {
-        Ok(DraftForm::Plain(read_whole(alloc, members)?))
-    } else if says_at(members, "type", "choice") {
-        let options = take_at(alloc, members, "options")?;
-        Ok(DraftForm::Plain(Kind::Choice { options }))
-    } else if says_at(members, "type", "amount") {
-        let scale = take_at(alloc, members, "scale")?;
-        Ok(DraftForm::Plain(Kind::Amount { scale }))
-    } else if says_at(members, "type", "text") {
-        let max = take_at(alloc, members, "max")?;
-        Ok(DraftForm::Plain(Kind::Text { max }))
-    } else {
-        Ok(DraftForm::Rollup(read_rollup(alloc, members)?))
+    let column_type = type_at(members);
+    form_for(alloc, column_type, members)
+}
+
+// The type of a column.
+#[tactic(auto, unfolding(crate::specs::Reading::type_in))]
+fn type_at(members: &Map<String, Json>) -> ColumnType
+    ensures { result ≡ say.type_in (at "type" (object (members_view members.now.entries))) }
+{
+    text_at(members, "type")
+        .and_then(ColumnType::parse)
+        .unwrap_or(ColumnType::Rollup)
+}
+
+// What a column of a type says.
+#[tactic(auto, unfolding(crate::specs::Reading::form_for))]
+fn form_for(
+    alloc: Global,
+    column_type: ColumnType,
+    members: &mut Map<String, Json>,
+) -> Result<DraftForm, AllocError>
+    ensures { IfOk result (λ form. form
+        ≡ say.form_for column_type (object (members_view members.old.entries))) }
+{
+    match column_type {
+        ColumnType::Flag => Ok(DraftForm::Plain(Kind::Flag)),
+        ColumnType::Moment => Ok(DraftForm::Plain(Kind::Moment)),
+        ColumnType::Lookup => Ok(DraftForm::Lookup),
+        ColumnType::Whole => Ok(DraftForm::Plain(read_whole(alloc, members)?)),
+        ColumnType::Choice => {
+            let options = take_at(alloc, members, "options")?;
+            Ok(DraftForm::Plain(Kind::Choice { options }))
+        }
+        ColumnType::Amount => {
+            let scale = take_at(alloc, members, "scale")?;
+            Ok(DraftForm::Plain(Kind::Amount { scale }))
+        }
+        ColumnType::Text => {
+            let max = take_at(alloc, members, "max")?;
+            Ok(DraftForm::Plain(Kind::Text { max }))
+        }
+        ColumnType::Rollup => Ok(DraftForm::Rollup(read_rollup(alloc, members)?)),
     }
 }
 
 // A whole with its ends.
-#[tactic(auto, using(dv_form::proofs::Reading::taken), unfolding(crate::specs::Reading::whole_of))]
+#[tactic(auto, unfolding(crate::specs::Reading::whole_of))]
 fn read_whole(alloc: Global, members: &mut Map<String, Json>) -> Result<Kind, AllocError>
-    ensures { IfOk result (λ kind. kind ≡ say.whole_of (object (members_view members.old.entries))) }
+    ensures { IfOk result (λ kind. kind
+        ≡ say.whole_of (object (members_view members.old.entries))) }
 {
     let min: Option<i32> = take_given(alloc, members, "min")?;
     let max: Option<i32> = take_given(alloc, members, "max")?;
@@ -417,9 +379,10 @@ fn read_whole(alloc: Global, members: &mut Map<String, Json>) -> Result<Kind, Al
 }
 
 // A rollup: what it takes of the rows under its own.
-#[tactic(auto, using(dv_form::proofs::Reading::taken), unfolding(crate::specs::Reading::rollup_of))]
+#[tactic(auto, unfolding(crate::specs::Reading::rollup_of))]
 fn read_rollup(alloc: Global, members: &mut Map<String, Json>) -> Result<DraftRollup, AllocError>
-    ensures { IfOk result (λ rollup. rollup ≡ say.rollup_of (object (members_view members.old.entries))) }
+    ensures { IfOk result (λ rollup. rollup
+        ≡ say.rollup_of (object (members_view members.old.entries))) }
 {
     Ok(DraftRollup {
         kind: take_at(alloc, members, "kind")?,

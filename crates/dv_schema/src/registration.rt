@@ -1,3 +1,8 @@
+//! Registrations of steps, and the messages that steps can be registered for.
+
+ghost use Rattle.std.specs.Prelude.{◌≡◌};
+ghost use Rattle.dv_schema.specs.Words.{message_word, message_of};
+
 use dv_value::{Id, Names, Values};
 
 /// A step that runs when a message comes to a table.
@@ -33,4 +38,44 @@ pub enum Message {
     Grant,
     Modify,
     Revoke,
+}
+
+impl Message {
+    /// The messages.
+    pub const ALL: [Message; 7] = [
+        Message::Create,
+        Message::Update,
+        Message::Delete,
+        Message::Assign,
+        Message::Grant,
+        Message::Modify,
+        Message::Revoke,
+    ];
+
+    /// The word for it.
+    #[tactic(auto, unfolding(crate::specs::Words::message_word))]
+    pub fn word(self) -> &'static str
+        ensures { result.now ≡ message_word self }
+    {
+        match self {
+            Message::Create => "create",
+            Message::Update => "update",
+            Message::Delete => "delete",
+            Message::Assign => "assign",
+            Message::Grant => "grant",
+            Message::Modify => "modify",
+            Message::Revoke => "revoke",
+        }
+    }
+
+    /// The message that a word says.
+    #[tactic(auto, unfolding(crate::specs::Words::message_of))]
+    pub fn parse(word: &str) -> Option<Message>
+        ensures { result ≡ message_of word.now }
+    {
+        Message::ALL
+            .iter()
+            .copied()
+            .find(|message| message.word() == word)
+    }
 }

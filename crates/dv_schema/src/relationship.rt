@@ -1,3 +1,8 @@
+//! Relationships, and which children what is done to a parent reaches.
+
+ghost use Rattle.std.specs.Prelude.{◌≡◌};
+ghost use Rattle.dv_schema.specs.Words.{cascade_word, cascade_of};
+
 use dv_value::Text;
 
 /// Rows of one table under rows of another, by a lookup column.
@@ -32,4 +37,42 @@ pub enum Cascade {
     RemoveLink,
     /// None, and while there is one the parent stays.
     Restrict,
+}
+
+impl Cascade {
+    /// The cascades.
+    pub const ALL: [Cascade; 6] = [
+        Cascade::NoCascade,
+        Cascade::Cascade,
+        Cascade::Active,
+        Cascade::UserOwned,
+        Cascade::RemoveLink,
+        Cascade::Restrict,
+    ];
+
+    /// The word for it.
+    #[tactic(auto, unfolding(crate::specs::Words::cascade_word))]
+    pub fn word(self) -> &'static str
+        ensures { result.now ≡ cascade_word self }
+    {
+        match self {
+            Cascade::NoCascade => "nocascade",
+            Cascade::Cascade => "cascade",
+            Cascade::Active => "active",
+            Cascade::UserOwned => "userowned",
+            Cascade::RemoveLink => "removelink",
+            Cascade::Restrict => "restrict",
+        }
+    }
+
+    /// The cascade that a word says.
+    #[tactic(auto, unfolding(crate::specs::Words::cascade_of))]
+    pub fn parse(word: &str) -> Option<Cascade>
+        ensures { result ≡ cascade_of word.now }
+    {
+        Cascade::ALL
+            .iter()
+            .copied()
+            .find(|cascade| cascade.word() == word)
+    }
 }

@@ -1,3 +1,8 @@
+//! Tables and their columns.
+
+ghost use Rattle.std.specs.Prelude.{◌≡◌};
+ghost use Rattle.dv_schema.specs.Words.{rollup_word, rollup_kind_of};
+
 use dv_value::{Kind, Text};
 use sqlite_items::Items;
 
@@ -57,4 +62,38 @@ pub enum RollupKind {
     Count,
     Min,
     Max,
+}
+
+impl RollupKind {
+    /// The kinds.
+    pub const ALL: [RollupKind; 4] = [
+        RollupKind::Sum,
+        RollupKind::Count,
+        RollupKind::Min,
+        RollupKind::Max,
+    ];
+
+    /// The word for it.
+    #[tactic(auto, unfolding(crate::specs::Words::rollup_word))]
+    pub fn word(self) -> &'static str
+        ensures { result.now ≡ rollup_word self }
+    {
+        match self {
+            RollupKind::Sum => "sum",
+            RollupKind::Count => "count",
+            RollupKind::Min => "min",
+            RollupKind::Max => "max",
+        }
+    }
+
+    /// The kind of rollup that a word says.
+    #[tactic(auto, unfolding(crate::specs::Words::rollup_kind_of))]
+    pub fn parse(word: &str) -> Option<RollupKind>
+        ensures { result ≡ rollup_kind_of word.now }
+    {
+        RollupKind::ALL
+            .iter()
+            .copied()
+            .find(|kind| kind.word() == word)
+    }
 }

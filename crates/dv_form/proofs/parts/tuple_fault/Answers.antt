@@ -1,7 +1,7 @@
 use Rattle.std.proofs.Common.{◌∙◌, sym, ap, map, drop, arith}
 use Rattle.std.proofs.lemmas.List.{drop_all}
 use Rattle.serde_json.specs.View.{items_view}
-use Rattle.dv_form.specs.Tables.{spelling_of}
+use Rattle.dv_form.specs.Schemas.{spelling_of}
 use Rattle.dv_form.specs.Walk.{spelled_items_fault}
 use Rattle.dv_form.proofs.Faults.{told, told_none, told_item, tuple_longer, tuple_same, spelled_here, spelled_later, spelled_all, spelled_next}
 use Rattle.dv_form.proofs.parts.tuple_fault.Goals as goal

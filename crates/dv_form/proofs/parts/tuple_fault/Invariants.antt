@@ -1,6 +1,6 @@
 use Rattle.std.proofs.Common.{◌≡◌, map, drop}
 use Rattle.serde_json.specs.View.{items_view}
-use Rattle.dv_form.specs.Tables.{spelling_of}
+use Rattle.dv_form.specs.Schemas.{spelling_of}
 use Rattle.dv_form.specs.Walk as walk
 use Rattle.dv_form.proofs.parts.tuple_fault.Given as goal
 

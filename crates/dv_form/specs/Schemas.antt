@@ -1,16 +1,17 @@
--- What the tables of the code say, their references read.
+-- What the schemas of the code say, their references read.
 use Rattle.std.specs.Prelude.{map, option_map}
 use Rattle.dv_form.specs.Forms as plain
 use Rattle.dv_form.specs.declared.spelling.Spelling.{Spelling}
 use Rattle.dv_form.specs.declared.spelling.Spelling.TheVariants.{Id, RealId, Name, NameOrStar, Text, Flag, Integer, IntegerFrom, IntegerAmong, WordAmong, Raw, Version, Token}
 use Rattle.dv_form.specs.declared.form.Form.{Form}
 use Rattle.dv_form.specs.declared.form.Form.TheVariants.{Value, RawValues, Object, Tuple, Values, Objects, Tuples, DistinctIntegers}
-use Rattle.dv_form.specs.declared.form.Bar.{Bar}
-use Rattle.dv_form.specs.declared.form.Bar.TheVariants.{Given, IsWord, IsNotInteger, IsSameId}
+use Rattle.dv_form.specs.declared.form.Exclusion.{Exclusion}
+use Rattle.dv_form.specs.declared.form.Exclusion.TheVariants.{Given, IsWord, IsNotInteger, IsSameId}
 use Rattle.dv_form.specs.declared.form.Member.{Member}
 use Rattle.dv_form.specs.declared.form.Case.{Case}
-use Rattle.dv_form.specs.declared.form.Table.{Table}
+use Rattle.dv_form.specs.declared.form.Schema.{Schema}
 
+-- a spelling of the code
 abbrev pub spelling_of : Spelling → plain.Spelling
 spelling_of Id = plain.any_id
 spelling_of RealId = plain.real_id
@@ -26,6 +27,7 @@ spelling_of Raw = plain.any_raw
 spelling_of Version = plain.a_version
 spelling_of Token = plain.a_token
 
+-- a form of the code; a list has its items' form and its limit
 abbrev pub form_of : {R : Type 0} → Form R → plain.Form R
 form_of (Value s) = plain.value (spelling_of s)
 form_of RawValues = plain.raw_values
@@ -36,17 +38,21 @@ form_of (Objects r most) = plain.list_of (plain.object_of r) most
 form_of (Tuples ss most) = plain.list_of (plain.tuple_of (map spelling_of ss.now)) most
 form_of DistinctIntegers = plain.distinct_integers
 
-abbrev pub bar_of : Bar → plain.Bar
-bar_of (Given name) = plain.given name.now
-bar_of (IsWord name word) = plain.is_word name.now word.now
-bar_of (IsNotInteger name n) = plain.is_not_integer name.now n
-bar_of (IsSameId name) = plain.is_same_id name.now
+-- an exclusion of the code
+abbrev pub exclusion_of : Exclusion → plain.Exclusion
+exclusion_of (Given name) = plain.given name.now
+exclusion_of (IsWord name word) = plain.is_word name.now word.now
+exclusion_of (IsNotInteger name n) = plain.is_not_integer name.now n
+exclusion_of (IsSameId name) = plain.is_same_id name.now
 
+-- a line of a schema of the code
 abbrev pub member_of : {R : Type 0} → Member R → plain.Member R
-member_of m = record { name = m.name.now; needed = m.needed; form = form_of m.form; barred = map bar_of m.barred.now }
+member_of m = record { name = m.name.now; needed = m.needed; form = form_of m.form; excluded_by = map exclusion_of m.excluded_by.now }
 
+-- the further members under a word, as the code has them
 abbrev pub case_of : {R : Type 0} → Case R → plain.Case R
 case_of c = record { word = c.word.now; members = map member_of c.members.now }
 
-abbrev pub table_of : {R : Type 0} → Table R → plain.Object R
-table_of t = record { members = map member_of t.members.now; decided_by = option_map (λ name. name.now) t.decided_by; cases = map case_of t.cases.now }
+-- a schema of the code
+abbrev pub schema_of : {R : Type 0} → Schema R → plain.Schema R
+schema_of t = record { members = map member_of t.members.now; decided_by = option_map (λ name. name.now) t.decided_by; cases = map case_of t.cases.now }

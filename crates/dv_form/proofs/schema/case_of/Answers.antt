@@ -1,9 +1,9 @@
 use Rattle.std.proofs.Common.{◌≡◌, ◌∙◌, ◌+◌, ◌∷◌, sym, ap, map, drop, arith}
 use Rattle.std.proofs.lemmas.List.{drop_more, drop_all}
-use Rattle.dv_form.specs.Tables as plain
+use Rattle.dv_form.specs.Schemas as plain
 use Rattle.dv_form.specs.Walk as walk
 use Rattle.dv_form.proofs.Faults.{case_here, case_later, case_nowhere}
-use Rattle.dv_form.proofs.table.case_of.Goals as goal
+use Rattle.dv_form.proofs.schema.case_of.Goals as goal
 
 pub returns-then-eq : goal.returns-then-eq
 returns-then-eq g c =

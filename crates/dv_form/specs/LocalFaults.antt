@@ -4,20 +4,20 @@ use Rattle.std.specs.Fmt.{decimal}
 use Rattle.dv_form.specs.Places.{is_named, path_text}
 use Rattle.dv_form.specs.Walk as walk
 use Rattle.dv_form.specs.declared.fault.Fault.{Fault}
-use Rattle.dv_form.specs.declared.found.Found.{Found}
+use Rattle.dv_form.specs.declared.local_fault.LocalFault.{LocalFault}
 
 -- on its way out
-abbrev pub found_of : walk.Found → Found
-found_of f = record { kind = f.kind; is_named = is_named f.path; text = path_text f.path }
+abbrev pub local_of : walk.Violation → LocalFault
+local_of f = record { kind = f.kind; is_named = is_named f.path; text = path_text f.path }
 
 -- seen from the object whose member has it
-abbrev pub within_member : List ℕ → Found → Found
+abbrev pub within_member : List ℕ → LocalFault → LocalFault
 within_member name f = record { kind = f.kind; is_named = true; text = name ++ (if f.is_named then codes "." else []) ++ f.text }
 
 -- seen from the list whose item has it
-abbrev pub within_item : ℕ → Found → Found
+abbrev pub within_item : ℕ → LocalFault → LocalFault
 within_item at f = record { kind = f.kind; is_named = false; text = (codes "[" ++ decimal at ++ codes "]") ++ (if f.is_named then codes "." else []) ++ f.text }
 
 -- as it is told
-abbrev pub fault_of : walk.Found → Fault
+abbrev pub fault_of : walk.Violation → Fault
 fault_of f = record { kind = f.kind; place = chars (path_text f.path) }

@@ -1,6 +1,9 @@
-ghost use Rattle.std.specs.Prelude.{◌≡◌, [], false, chars, IfOk};
-ghost use Rattle.dv_form.specs.Found.{found_of, within_member, within_item};
+//! A fault while its place is still being written: the path from the part that is being looked at.
+
+ghost use Rattle.std.specs.Prelude.{◌≡◌, [], false, chars, IfOk, codes, ◌++◌, if◌then◌else◌};
+ghost use Rattle.dv_form.specs.LocalFaults.{local_of, within_member, within_item};
 ghost use Rattle.dv_form.specs.Walk as walk;
+ghost use Rattle.std.specs.Fmt.{decimal};
 
 use crate::fault::{Fault, FaultKind};
 use dv_value::Text;
@@ -23,23 +26,21 @@ impl Model for Path {
 
 /// A fault on its way out of the value that it was found in.
 #[derive(Drop)]
-pub(crate) struct Found {
+pub(crate) struct LocalFault {
     kind: FaultKind,
     /// Whether the path begins with a member's name.
     is_named: bool,
     text: Path,
 }
 
-impl Found {
+impl LocalFault {
     /// A fault of the value itself.
     #[tactic(auto, unfolding(crate::specs::Places::path_text, crate::specs::Places::is_named))]
-    pub(crate) fn here(alloc: Global, kind: FaultKind) -> Found
-        ensures { result ≡ found_of (walk.here kind) }
+    pub(crate) fn here(alloc: Global, kind: FaultKind) -> LocalFault
+        ensures { result ≡ local_of (walk.here kind) }
     {
-        let text = Path {
-            inner: String::new(alloc),
-        };
-        Found {
+        let text = Path::empty(alloc);
+        LocalFault {
             kind,
             is_named: false,
             text,
@@ -47,16 +48,16 @@ impl Found {
     }
 
     /// The fault of a member's value, seen from the object.
-    pub(crate) fn inside_member(self, alloc: Global, name: &str) -> Result<Found, AllocError>
+    pub(crate) fn inside_member(self, alloc: Global, name: &str) -> Result<LocalFault, AllocError>
         ensures { IfOk result (λ out. out ≡ within_member name.now self) }
     {
-        let Found {
+        let LocalFault {
             kind,
             is_named,
             text,
         } = self;
         let text = text.after_name(alloc, name, is_named)?;
-        Ok(Found {
+        Ok(LocalFault {
             kind,
             is_named: true,
             text,
@@ -64,16 +65,16 @@ impl Found {
     }
 
     /// The fault of an item, seen from the list.
-    pub(crate) fn inside_item(self, alloc: Global, at: usize) -> Result<Found, AllocError>
+    pub(crate) fn inside_item(self, alloc: Global, at: usize) -> Result<LocalFault, AllocError>
         ensures { IfOk result (λ out. out ≡ within_item at self) }
     {
-        let Found {
+        let LocalFault {
             kind,
             is_named,
             text,
         } = self;
         let text = text.after_item(alloc, at, is_named)?;
-        Ok(Found {
+        Ok(LocalFault {
             kind,
             is_named: false,
             text,
@@ -85,7 +86,7 @@ impl Found {
         ensures kind { result.kind ≡ self.kind }
         ensures place { result.place ≡ chars self.text }
     {
-        let Found { kind, text, .. } = self;
+        let LocalFault { kind, text, .. } = self;
         let Path { inner } = text;
         Fault {
             kind,
@@ -94,13 +95,20 @@ impl Found {
     }
 }
 
-ghost use Rattle.std.specs.Prelude.{codes, ◌++◌, if◌then◌else◌};
-ghost use Rattle.std.specs.Fmt.{decimal};
-
 impl Path {
+    // The empty path.
+    fn empty(alloc: Global) -> Path
+        ensures { result ≡ [] }
+    {
+        Path {
+            inner: String::new(alloc),
+        }
+    }
+
     // The path with a member's name in front.
     fn after_name(self, alloc: Global, name: &str, is_named: bool) -> Result<Path, AllocError>
-        ensures { IfOk result (λ path. path ≡ name.now ++ (if is_named then codes "." else []) ++ self) }
+        ensures { IfOk result (λ path. path
+            ≡ name.now ++ (if is_named then codes "." else []) ++ self) }
     {
         let Path { inner } = self;
         let dot = if is_named { "." } else { "" };
@@ -110,7 +118,8 @@ impl Path {
 
     // The path with an item's number in front.
     fn after_item(self, alloc: Global, at: usize, is_named: bool) -> Result<Path, AllocError>
-        ensures { IfOk result (λ path. path ≡ (codes "[" ++ decimal at ++ codes "]") ++ (if is_named then codes "." else []) ++ self) }
+        ensures { IfOk result (λ path. path ≡ (codes "[" ++ decimal at ++ codes "]")
+            ++ (if is_named then codes "." else []) ++ self) }
     {
         let Path { inner } = self;
         let dot = if is_named { "." } else { "" };
