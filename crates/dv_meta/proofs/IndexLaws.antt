@@ -6,21 +6,17 @@ use Rattle.std.proofs.lemmas.List.{map-append, take_more, take_all, length-map, 
 use Rattle.dv_schema.specs.declared.draft.DraftForm.{DraftForm}
 use Rattle.dv_schema.specs.declared.draft.DraftForm.TheVariants.{Plain, Lookup, Rollup}
 use Rattle.dv_schema.specs.declared.draft.DraftTable.{DraftTable}
-use Rattle.dv_meta.specs.declared.index.Columns.{Columns}
+use Rattle.dv_meta.specs.declared.index.table_columns.Columns.{Columns}
 use Rattle.dv_schema.specs.declared.draft.DraftRelationship.{DraftRelationship}
-use Rattle.dv_meta.specs.declared.names.Lookups.{Lookups}
-use Rattle.dv_meta.specs.declared.names.Numbers.{Numbers}
+use Rattle.dv_meta.specs.declared.index.names.Lookups.{Lookups}
+use Rattle.dv_meta.specs.declared.index.names.Numbers.{Numbers}
 use Rattle.dv_schema.specs.First.{first_from}
 use Rattle.dv_meta.specs.Columns.{names_by}
-use Rattle.dv_meta.specs.Index.{Finds, FindsColumns, FindsEach}
+use Rattle.dv_meta.specs.Index.{Adds, AddsLookup, Finds, FindsColumns, FindsEach, FindsLookups}
 use Rattle.dv_meta.specs.Named.{lookup_of, has_lookup}
 use Rattle.dv_schema.specs.Names.{Name, same_name, place_of}
 use Rattle.dv_meta.specs.Numbers.{number_in, lookup_in}
 use Rattle.dv_schema.proofs.FirstLaws.{first_from-push}
-
--- what an added name leaves
-abbrev pub Adds : Numbers → Numbers → Name → ℕ → Type 0
-Adds old new name number = (q : Name) → number_in new q ≡ option_or (number_in old q) (cond (same_name q name) (Some number) None)
 
 -- one name more is found
 pub Finds-push : (old new : Numbers) (names : List Name) (name : Name) → Finds old names → Adds old new name (length names) → Finds new (names ++ name ∷ [])
@@ -60,13 +56,6 @@ Finds-more_copy f xs i x copy old new within read e found added =
 pub Finds-nil : (numbers : Numbers) → ((q : Name) → number_in numbers q ≡ None) → Finds numbers []
 unfolding place_of first_from
 Finds-nil numbers none q = none q
-
--- what an added lookup leaves
-abbrev pub AddsLookup : Lookups → Lookups → Name → Name → ℕ → Type 0
-AddsLookup old new table name number = (t q : Name) → lookup_in new t q ≡ option_or (lookup_in old t q) (cond (same_name t table && same_name q name) (Some number) None)
-
-abbrev pub FindsLookups : Lookups → List DraftRelationship → Type 0
-FindsLookups lookups relationships = (table name : Name) → lookup_in lookups table name ≡ lookup_of relationships table name
 
 -- one relationship more
 pub FindsLookups-more : (rs : List DraftRelationship) (i : ℕ) (r : DraftRelationship) (old new : Lookups) → i < length rs → r ≡ get_or rs i r

@@ -1,4 +1,9 @@
+pub mod FaultlessLaws
+pub mod FoundLaws
 pub mod IndexLaws
 pub mod NumberLaws
 pub mod NumbersLaws
+pub mod OpeningResolvedLaws
+pub mod ResolvedLaws
+pub mod SoundLaws
 pub mod TakenLaws

@@ -7,8 +7,8 @@ use Rattle.std.specs.Option.{option_or}
 use Rattle.std.specs.Ordering.{on, nat_cmp}
 use Rattle.std.proofs.lemmas.Map.Text.{is_eq-slice_cmp}
 use Rattle.std.proofs.lemmas.Slice.Eq.{bytes_eq-Decides}
-use Rattle.dv_meta.specs.declared.names.Lookups.{Lookups}
-use Rattle.dv_meta.specs.declared.names.Numbers.{Numbers}
+use Rattle.dv_meta.specs.declared.index.names.Lookups.{Lookups}
+use Rattle.dv_meta.specs.declared.index.names.Numbers.{Numbers}
 use Rattle.dv_schema.specs.Names.{Name, same_name}
 use Rattle.dv_meta.specs.Numbers.{number_in, lookup_in}
 
@@ -22,7 +22,7 @@ option_or-None : (o : Option ℕ) → o ≡ option_or o None
 option_or-None None = refl
 option_or-None (Some k) = refl
 
-same_bytes : (a b : Name) → same_name a b ≡ true → encode_utf8_all a ≡ encode_utf8_all b
+pub same_bytes : (a b : Name) → same_name a b ≡ true → encode_utf8_all a ≡ encode_utf8_all b
 same_bytes a b e = (bytes_eq-Decides (encode_utf8_all a) (encode_utf8_all b)).0 e
 
 -- names that are one have one number

@@ -9,7 +9,7 @@ use Rattle.dv_schema.specs.declared.fault.DefKind.TheVariants.{NameTaken, Unknow
 use Rattle.dv_schema.specs.declared.place.Place.{Place}
 use Rattle.dv_schema.specs.Places.{path_of}
 use Rattle.dv_opening.specs.Opening.{bad_directory}
-use Rattle.dv_meta.specs.declared.resolving.Fault.{Fault}
+use Rattle.dv_meta.specs.declared.passes.Fault.{Fault}
 use Rattle.dv_meta.specs.NameTaken.{name_taken}
 use Rattle.dv_meta.specs.Named.{owned}
 use Rattle.dv_meta.specs.Relations.{bad_cascade, ownership_clash, second_parent}
@@ -37,7 +37,7 @@ first_fault draft steps =
 abbrev pub refusal_of : Fault → DefFault
 refusal_of fault = Bad fault.kind (chars (path_of fault.place))
 
--- a refusal tells the first fault, and want of memory tells of none
+-- a refusal tells the first fault; out of memory says nothing of the definition
 abbrev pub IsTold : Option Fault → DefFault → Type 0
 IsTold first (Bad kind place) = option_map refusal_of first ≡ Some (Bad kind place)
 IsTold first OutOfMemory = Unit {0}

@@ -5,8 +5,11 @@ pub mod Index
 pub mod NameTaken
 pub mod Named
 pub mod Numbers
+pub mod Privileges
 pub mod Reader
 pub mod Relations
+pub mod Resolved
 pub mod Rollups
+pub mod Sound
 pub mod Steps
 pub mod UnknownName

@@ -51,7 +51,7 @@ is_second draft at_k = is_parental at_k.1 && option_map_or (λ j. nat_lt j at_k.
 unfoldable pub bad_cascade : Draft → Option Place
 bad_cascade draft = option_map at.Relationship (position (empties_required draft) draft.relationships)
 
--- the first relationship that hands ownership or shares on where there are none
+-- the first relationship that passes ownership or shares on to a table without owners, or from one
 unfoldable pub ownership_clash : Draft → Option Place
 ownership_clash draft = option_map at.Relationship (position (clashes draft) draft.relationships)
 

@@ -1,3 +1,4 @@
+//! Names with an ending.
 ghost use Rattle.std.specs.Prelude.{◌≡◌, ◌++◌, IfOk, chars};
 
 use dv_value::Text;

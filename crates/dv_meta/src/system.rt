@@ -1,3 +1,4 @@
+//! The columns that every table has.
 ghost use Rattle.std.specs.Prelude.{◌≡◌, ◌++◌, ◌∷◌, [], IfOk, OnOk, chars};
 ghost use Rattle.dv_meta.specs.Columns.{system_column, system_columns, owner_columns};
 

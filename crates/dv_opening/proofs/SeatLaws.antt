@@ -2,7 +2,7 @@
 use Rattle.std.proofs.Common.{◌≡◌, ℕ, ◌+◌, ◌<◌, ◌≤◌, List, [], ◌∷◌, ◌++◌, length, map, take, get_or, Option, Some, None, cond, eqb, sym, ap, ◌∙◌, arith, zero-add, subst}
 use Rattle.std.specs.Option.{option_or}
 use Rattle.std.proofs.lemmas.List.{map-append, take_more, take_all, length-map, length-take-le}
-use Rattle.dv_opening.specs.declared.seats.Ids.{Ids}
+use Rattle.dv_opening.specs.declared.ids.Ids.{Ids}
 use Rattle.dv_schema.specs.First.{first_from}
 use Rattle.dv_opening.specs.Opening.{id_place}
 use Rattle.dv_opening.specs.Seats.{place_in, Places}

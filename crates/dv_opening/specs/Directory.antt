@@ -5,6 +5,7 @@ use Rattle.std.specs.Option.{option_or}
 use Rattle.dv_schema.specs.declared.opening.Action.{Action}
 use Rattle.dv_schema.specs.declared.opening.Action.TheVariants.{Assign, Share}
 use Rattle.dv_schema.specs.declared.opening.Entry.{Entry}
+use Rattle.dv_opening.specs.declared.limits.TheConstants.{UNITS, USERS, TEAMS, ROLES}
 use Rattle.dv_schema.specs.First.{first}
 use Rattle.dv_schema.specs.Names.{Name}
 
@@ -48,15 +49,15 @@ is_seat d id = (id == 0) || (d.is_unit id || (d.is_user id || d.is_team id))
 
 -- a new unit under a parent; there are at most 1,000 units
 unfoldable pub adding_unit : Directory → ℕ → ℕ → Option Cause
-adding_unit d id parent = if is_seat d id then Some IdTaken else (if not (d.is_unit parent) then Some UnknownUnit else (if nat_le 1000 d.units then Some Full else None))
+adding_unit d id parent = if is_seat d id then Some IdTaken else (if not (d.is_unit parent) then Some UnknownUnit else (if nat_le UNITS d.units then Some Full else None))
 
 -- a new user in a unit; there are at most 10,000 users
 unfoldable pub adding_user : Directory → ℕ → ℕ → Option Cause
-adding_user d id unit = if is_seat d id then Some IdTaken else (if not (d.is_unit unit) then Some UnknownUnit else (if nat_le 10000 d.users then Some Full else None))
+adding_user d id unit = if is_seat d id then Some IdTaken else (if not (d.is_unit unit) then Some UnknownUnit else (if nat_le USERS d.users then Some Full else None))
 
 -- a new team of a unit; there are at most 5,000 further teams
 unfoldable pub adding_team : Directory → ℕ → ℕ → Option Cause
-adding_team d id unit = if is_seat d id then Some IdTaken else (if not (d.is_unit unit) then Some UnknownUnit else (if nat_le 5000 d.teams then Some Full else None))
+adding_team d id unit = if is_seat d id then Some IdTaken else (if not (d.is_unit unit) then Some UnknownUnit else (if nat_le TEAMS d.teams then Some Full else None))
 
 -- a user as a member of a team; whether there is no room for one more is told beside it
 unfoldable pub adding_member : Directory → Seat → ℕ → Bool → Option Cause
@@ -87,7 +88,7 @@ adding_entry owned entry = on_table entry.table
 
 -- a new role with its entries; there are at most 500 roles besides the System Administrator
 unfoldable pub adding_role : Directory → (Name → Option Bool) → ℕ → List Entry → Option Cause
-adding_role d owned id entries = if (id == 0) || d.is_role id then Some IdTaken else option_or (first (λ i entry. adding_entry owned entry) entries) (if nat_le 500 d.roles then Some Full else None)
+adding_role d owned id entries = if (id == 0) || d.is_role id then Some IdTaken else option_or (first (λ i entry. adding_entry owned entry) entries) (if nat_le ROLES d.roles then Some Full else None)
 
 -- a role for a user or a team
 unfoldable pub giving_role : Directory → ℕ → Seat → Option Cause

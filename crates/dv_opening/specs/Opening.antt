@@ -12,6 +12,7 @@ use Rattle.dv_schema.specs.declared.opening.OpeningUser.{OpeningUser}
 use Rattle.dv_schema.specs.declared.opening.Role.{Role}
 use Rattle.dv_schema.specs.declared.place.Place.{Place}
 use Rattle.dv_schema.specs.declared.place.Place.TheVariants as at
+use Rattle.dv_opening.specs.declared.limits.TheConstants.{MEMBERS}
 use Rattle.dv_opening.specs.Directory.{Directory, Seat, AUser, OwnerTeam, AccessTeam, adding_unit, adding_user, adding_team, adding_member, adding_role, giving_role}
 use Rattle.dv_schema.specs.First.{first}
 use Rattle.dv_schema.specs.Names.{Name}
@@ -79,7 +80,7 @@ member_count team = length (filter (λ at_j. not (id_before (map (λ user. user.
 
 -- whether the team with those before it has more than 100,000 members
 unfoldable pub overfull : Opening → ℕ → Bool
-overfull o k = nat_lt 100000 (sum_by member_count (take (k + 1) o.teams))
+overfull o k = nat_lt MEMBERS (sum_by member_count (take (k + 1) o.teams))
 
 -- whether the team, one of its members or one of its roles is refused
 unfoldable pub team_alone_refused : Opening → ℕ × OpeningTeam → Bool

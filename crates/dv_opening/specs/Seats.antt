@@ -1,9 +1,9 @@
--- What an index of the opening's ids tells: for each id, its first place.
+-- An invariant of the code, and no rule of the directory: an index of the opening's ids has each id's first place.
 use Rattle.std.specs.Prelude.{ℕ, ◌≡◌, List, Option}
 use Rattle.std.specs.BTreeMap.{get}
 use Rattle.std.specs.Ordering.{nat_cmp}
 use Rattle.dv_schema.specs.declared.opening.Opening.{Opening}
-use Rattle.dv_opening.specs.declared.seats.Ids.{Ids}
+use Rattle.dv_opening.specs.declared.ids.Ids.{Ids}
 use Rattle.dv_opening.specs.declared.seats.Made.{Made}
 use Rattle.dv_opening.specs.declared.seats.Seats.{Seats}
 use Rattle.dv_opening.specs.Directory.{Directory}

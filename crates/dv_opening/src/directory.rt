@@ -5,15 +5,10 @@ ghost use Rattle.dv_opening.specs.Directory.{AUser, adding_unit, adding_user, ad
 ghost use Rattle.dv_opening.specs.Opening.{unit_refused, refused_unit, user_refused, refused_user, gift_refused, team_seat, member_refused};
 ghost use Rattle.dv_opening.specs.Seats.{AreSeatsOf, directory_of};
 
+use crate::limits::{TEAMS, UNITS, USERS};
 use crate::seats::{Made, Seats};
 use dv_schema::{Opening, OpeningUnit, OpeningUser, Place};
 use dv_value::Id;
-
-const UNITS: usize = 1000;
-
-const USERS: usize = 10_000;
-
-const TEAMS: usize = 5000;
 
 impl Made<'_> {
     /// Whether a new unit is refused.
@@ -65,7 +60,8 @@ impl Made<'_> {
     #[tactic(auto, unfolding(crate::specs::Directory::adding_member))]
     pub fn refuses_member(&self, access: bool, user: Id) -> bool
         requires { AreSeatsOf self.now.opening.now self.now.seats.now }
-        ensures { result ≡ is_some (adding_member (directory_of self.now) (team_seat access) user.0 false) }
+        ensures { result ≡ is_some (adding_member (directory_of self.now)
+            (team_seat access) user.0 false) }
     {
         if access {
             return !self.is_user(user);

@@ -6,9 +6,12 @@
 #![tactic(auto)]
 
 mod directory;
+mod ids;
+mod limits;
 mod seats;
 mod teams;
 
 pub use directory::{refused_unit, refused_user};
+pub use limits::{MEMBERS, ROLES, TEAMS, UNITS, USERS};
 pub use seats::{Made, Seats};
 pub use teams::refused_team;

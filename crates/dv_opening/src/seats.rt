@@ -1,61 +1,12 @@
-ghost use Rattle.std.specs.Prelude.{◌≡◌, ◌==◌, ℕ, List, Some, None, map, if◌then◌else◌, IfOk, OnOk};
-ghost use Rattle.std.specs.Option.{option_or};
+//! Where the ids of an opening directory first stand, and the directory that is made of a part of it.
+ghost use Rattle.std.specs.Prelude.{◌≡◌, IfOk};
 ghost use Rattle.dv_opening.specs.Directory.{is_seat};
-ghost use Rattle.dv_opening.specs.Opening.{id_before, unit_ids, user_ids, team_ids, role_ids};
-ghost use Rattle.dv_opening.specs.Seats.{place_in, Places, AreSeatsOf, directory_of};
+ghost use Rattle.dv_opening.specs.Seats.{AreSeatsOf, directory_of};
 
-use dv_schema::{Opening, OpeningTeam, OpeningUnit, OpeningUser, Role};
+use crate::ids::{Ids, places};
+use dv_schema::Opening;
 use dv_value::Id;
 use std::alloc::{AllocError, Global};
-use std::collections::BTreeMap;
-
-/// Ids with the place that each was given first.
-#[derive(Drop)]
-pub struct Ids {
-    map: BTreeMap<u128, usize>,
-}
-
-impl Ids {
-    /// No ids.
-    #[tactic(auto, unfolding(crate::specs::Seats::place_in))]
-    pub fn new(alloc: Global) -> Ids
-        ensures { (id : ℕ) → place_in result id ≡ None }
-    {
-        Ids {
-            map: BTreeMap::new(alloc),
-        }
-    }
-
-    /// The place of an id.
-    #[tactic(auto, unfolding(crate::specs::Seats::place_in))]
-    pub fn get(&self, id: Id) -> Option<usize>
-        ensures { result ≡ place_in self.now id.0 }
-    {
-        self.map.get(&id.0).copied()
-    }
-
-    /// Whether an id has an earlier place.
-    pub fn has_before(&self, place: usize, id: Id) -> bool
-        ensures { (list : List ℕ) → Places self.now list → result ≡ id_before list place id.0 }
-    {
-        match self.get(id) {
-            Some(k) => k < place,
-            None => false,
-        }
-    }
-
-    /// Gives an id a place, unless it has one.
-    #[tactic(auto, unfolding(crate::specs::Seats::place_in))]
-    pub fn add(&mut self, id: Id, place: usize) -> Result<(), AllocError>
-        ensures { OnOk result ((q : ℕ) → place_in self.new q ≡ option_or (place_in self.old q) (if q == id.0 then Some place else None)) }
-    {
-        if self.map.contains_key(&id.0) {
-            return Ok(());
-        }
-        self.map.insert(id.0, place)?;
-        Ok(())
-    }
-}
 
 /// The first place of each id of an opening directory.
 #[derive(Drop)]
@@ -72,63 +23,12 @@ impl Seats {
         ensures { IfOk result (λ seats. AreSeatsOf opening.now seats) }
     {
         Ok(Seats {
-            units: unit_places(alloc, opening.units.as_slice())?,
-            users: user_places(alloc, opening.users.as_slice())?,
-            teams: team_places(alloc, opening.teams.as_slice())?,
-            roles: role_places(alloc, opening.roles.as_slice())?,
+            units: places(alloc, opening.units.as_slice())?,
+            users: places(alloc, opening.users.as_slice())?,
+            teams: places(alloc, opening.teams.as_slice())?,
+            roles: places(alloc, opening.roles.as_slice())?,
         })
     }
-}
-
-fn unit_places(alloc: Global, units: &[OpeningUnit]) -> Result<Ids, AllocError>
-    ensures { IfOk result (λ ids. Places ids (unit_ids units.now)) }
-{
-    let mut ids = Ids::new(alloc);
-    for (k, unit) in units.iter().enumerate() {
-        ids.add(unit.id, k)?;
-    }
-    Ok(ids)
-}
-
-fn user_places(alloc: Global, users: &[OpeningUser]) -> Result<Ids, AllocError>
-    ensures { IfOk result (λ ids. Places ids (user_ids users.now)) }
-{
-    let mut ids = Ids::new(alloc);
-    for (k, user) in users.iter().enumerate() {
-        ids.add(user.id, k)?;
-    }
-    Ok(ids)
-}
-
-fn team_places(alloc: Global, teams: &[OpeningTeam]) -> Result<Ids, AllocError>
-    ensures { IfOk result (λ ids. Places ids (team_ids teams.now)) }
-{
-    let mut ids = Ids::new(alloc);
-    for (k, team) in teams.iter().enumerate() {
-        ids.add(team.id, k)?;
-    }
-    Ok(ids)
-}
-
-fn role_places(alloc: Global, roles: &[Role]) -> Result<Ids, AllocError>
-    ensures { IfOk result (λ ids. Places ids (role_ids roles.now)) }
-{
-    let mut ids = Ids::new(alloc);
-    for (k, role) in roles.iter().enumerate() {
-        ids.add(role.id, k)?;
-    }
-    Ok(ids)
-}
-
-/// The places of ids in a list.
-pub fn id_places(alloc: Global, list: &[Id]) -> Result<Ids, AllocError>
-    ensures { IfOk result (λ ids. Places ids (map (λ id. id.0) list.now)) }
-{
-    let mut ids = Ids::new(alloc);
-    for (k, id) in list.iter().enumerate() {
-        ids.add(*id, k)?;
-    }
-    Ok(ids)
 }
 
 /// The directory once the first so many units, users, teams and roles of the opening are made.

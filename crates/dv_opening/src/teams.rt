@@ -1,13 +1,13 @@
+//! Which team of the opening directory is refused, alone or for lack of room.
 ghost use Rattle.std.specs.Prelude.{◌≡◌, IfOk};
 ghost use Rattle.dv_opening.specs.Opening.{team_alone_refused, member_count, refused_team};
 ghost use Rattle.dv_opening.specs.Seats.{AreSeatsOf};
 
-use crate::seats::{Made, Seats, id_places};
+use crate::ids::places;
+use crate::limits::MEMBERS;
+use crate::seats::{Made, Seats};
 use dv_schema::{Opening, OpeningTeam, Place};
 use std::alloc::{AllocError, Global};
-
-/// The most members of all teams together.
-const MEMBERS: usize = 100_000;
 
 #[tactic(auto, unfolding(crate::specs::Opening::team_alone_refused, crate::specs::Opening::gift_refused, crate::specs::Opening::member_refused, crate::specs::Directory::giving_role, crate::specs::Directory::adding_member))]
 fn team_alone_refused(opening: &Opening, seats: &Seats, k: usize, team: &OpeningTeam) -> bool
@@ -37,12 +37,12 @@ fn member_count(alloc: Global, team: &OpeningTeam) -> Result<usize, AllocError>
     ensures { IfOk result (λ count. count ≡ member_count team.now) }
 {
     let members = team.members.as_slice();
-    let places = id_places(alloc, members)?;
+    let found = places(alloc, members)?;
     Ok(
         members
             .iter()
             .enumerate()
-            .filter(|(j, user)| !places.has_before(*j, **user))
+            .filter(|(j, user)| !found.has_before(*j, **user))
             .count(),
     )
 }

@@ -1,5 +1,5 @@
 use Rattle.std.proofs.Common.{take}
-use Rattle.dv_meta.proofs.IndexLaws.{FindsLookups}
+use Rattle.dv_meta.specs.Index.{FindsLookups}
 use Rattle.dv_meta.proofs.index.lookup_numbers.Given as goal
 
 abbrev pub invariant-loop-i : goal.invariant-loop-i

@@ -1,0 +1,13 @@
+use Rattle.std.proofs.Common.{sym, ◌∙◌, arith}
+use Rattle.dv_meta.specs.Rollups.{bad_in}
+use Rattle.dv_schema.proofs.FirstLaws.{first_from-more, first_from-found, first_from-end}
+use Rattle.dv_meta.proofs.passes.bad_rollups.bad_in_each.Goals as goal
+
+pub returns-in-Some : goal.returns-in-Some
+returns-in-Some c = sym (c.loop-i.invariant ∙ first_from-found (bad_in c.args.draft.now) c.args.tables.now c.loop-i.i c.index-tables-i.result c.in-Some.place (omega arith) c.index-tables-i.is (sym c.bad_in.ensures ∙ c.in-Some.is))
+
+pub loop-i-preserved : goal.loop-i-preserved
+loop-i-preserved c = c.loop-i.invariant ∙ first_from-more (bad_in c.args.draft.now) c.args.tables.now c.loop-i.i c.index-tables-i.result (omega arith) c.index-tables-i.is (sym c.bad_in.ensures ∙ c.in_default.is)
+
+pub returns : goal.returns
+returns c = sym (c.loop-i.invariant ∙ first_from-end (bad_in c.args.draft.now) c.args.tables.now c.loop-i.i (omega arith))
