@@ -1,9 +1,11 @@
+//! Replies: one variant for each form of answer, and the refusals.
+
 use dv_refusal::Refusal;
 use dv_value::{Id, Raw, Text, Token, Values};
 use sqlite_items::Items;
 
 /// What a caller is told.
-#[derive(Debug, Drop)]
+#[derive(Drop)]
 pub enum Reply {
     /// The request was served, and there is nothing to say.
     Done,
@@ -70,7 +72,7 @@ pub enum Reply {
 }
 
 /// Rights on a row that a user or a team was given.
-#[derive(Debug, Drop)]
+#[derive(Drop)]
 pub struct Share {
     pub principal: Id,
     /// Given for this row.
@@ -80,7 +82,7 @@ pub struct Share {
 }
 
 /// A change that is told.
-#[derive(Debug, Drop)]
+#[derive(Drop)]
 pub enum Change {
     /// A row that was made or changed, as it is now: its id at `id`, and all its columns.
     Row { row: Values },

@@ -1,3 +1,5 @@
+//! Requests: one variant for each message.
+
 use dv_query::Query;
 use dv_schema::{Entry, Role};
 use dv_value::{Id, Names, Text, Token, Values};

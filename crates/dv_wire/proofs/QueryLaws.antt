@@ -3,7 +3,7 @@ use Rattle.std.proofs.Common.{◌≡◌, ℕ, List, Bool, Option, option_map, ma
 use Rattle.serde_json.specs.Data.{Data}
 use Rattle.serde_json.specs.Find.{get}
 use Rattle.dv_form.specs.Members.{text_of}
-use Rattle.dv_schema.specs.Reading.{at, says, names_of}
+use Rattle.dv_form.specs.Members.{at, says, names_of}
 use Rattle.dv_query.specs.declared.filter.Condition.{Condition}
 use Rattle.dv_query.specs.declared.filter.Filter.{Filter}
 use Rattle.dv_query.specs.declared.filter.Filter.TheViews.{roll-Filter}

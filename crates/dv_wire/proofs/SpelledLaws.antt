@@ -5,18 +5,18 @@ use Rattle.std.specs.Option.{is_some}
 use Rattle.serde_json.specs.Data.{Data}
 use Rattle.serde_json.specs.Find.{get}
 use Rattle.dv_form.specs.Forms.{Member, object_of}
-use Rattle.dv_form.specs.Found.{fault_of}
+use Rattle.dv_form.specs.LocalFaults.{fault_of}
 use Rattle.dv_form.specs.Members.{members_in}
-use Rattle.dv_form.specs.Walk.{Found, judged_member, judged_object, members_fault, fault_at, first_fault, further}
-use Rattle.dv_value.specs.Json.{json_of}
+use Rattle.dv_form.specs.Walk.{Violation, judged_member, judged_object, members_fault, fault_at, first_fault, further, decided}
 use Rattle.dv_form.proofs.Faultless.{or_none, member_free, plain_free}
 use Rattle.dv_form.proofs.Faults.{fault_at_get}
 use Rattle.dv_wire.specs.declared.grammar.Rule.{Rule}
 use Rattle.dv_wire.specs.declared.grammar.Rule.TheVariants as rule
-use Rattle.dv_wire.specs.Grammar.{rules}
-use Rattle.dv_wire.specs.Spelled.{is_met, IsSpelled}
+use Rattle.dv_wire.specs.declared.verb.Verb.{Verb}
+use Rattle.dv_wire.specs.Grammar.{rules, members_for}
+use Rattle.dv_wire.specs.Spelled.{is_met, IsSpelled, has_members}
 
-no_fault : (x : Option Found) → x ≡ None → not (is_some x) ≡ true
+no_fault : (x : Option Violation) → x ≡ None → not (is_some x) ≡ true
 no_fault None e = refl
 no_fault (Some f) e = absurd (cc)
 
@@ -52,12 +52,19 @@ spelled-request d e =
     let both = spelled_by d (rules rule.Request).members (further (rules rule.Request) d) (plain_free rules d rule.Request e) in
     record { own = both.0; further = both.1 }
 
-untold : (o : Option Found) → None ≡ option_map fault_of o → o ≡ None
+untold : (o : Option Violation) → None ≡ option_map fault_of o → o ≡ None
 untold None is = refl
 untold (Some f) is = absurd (cc)
 
 -- a line without a fault has the members of a request
-pub spelled-line : (bytes : List ℕ) (d e : Data) → json_of bytes ≡ Some e → None ≡ option_map fault_of (first_fault rules e (object_of rule.Request)) → json_of bytes ≡ Some d → IsSpelled d
-spelled-line bytes d e is free given =
+pub spelled-line : (json : Option Data) (d e : Data) → json ≡ Some e → None ≡ option_map fault_of (first_fault rules e (object_of rule.Request)) → json ≡ Some d → IsSpelled d
+spelled-line json d e is free given =
     let same : e ≡ d = cc in
     subst IsSpelled same (spelled-request e (untold _ free))
+
+-- a body without a fault has the members of its message
+pub spelled-body : (verb : Verb) (json : Option Data) (d e : Data) → json ≡ Some e → None ≡ option_map fault_of (first_fault rules e (object_of (rule.Body verb))) → json ≡ Some d → has_members verb d ≡ true
+unfolding rules decided has_members
+spelled-body verb json d e is free given =
+    let same : e ≡ d = cc in
+    subst (λ x. list_all (is_met x) (members_for verb) ≡ true) same (spelled_by e (members_for verb) (Some []) (plain_free rules e (rule.Body verb) (untold _ free))).0

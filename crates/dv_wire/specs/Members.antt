@@ -29,6 +29,10 @@ token_if name d = option_and_then token_of (str_at name d)
 abbrev pub list_in : List ℕ → Members → Option (List Data)
 list_in name ms = option_map data_list (option_and_then as_array (get_member name ms))
 
+-- the same, none where it is missing
+abbrev pub items_in : List ℕ → Members → List Data
+items_in name ms = unwrap_or (list_in name ms) []
+
 -- the same of an object
 unfoldable pub list_if : List ℕ → Data → Option (List Data)
 list_if name d = option_map data_list (option_and_then as_array (get name d))

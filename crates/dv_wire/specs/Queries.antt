@@ -1,9 +1,8 @@
 -- The query that an object without a fault is. What is missing has its default: all columns, filters that hold of every row, inner links, ascending orders, the first page of 5,000 rows.
-use Rattle.std.specs.Prelude.{ℕ, pos, List, false, Option, Some, None, map, option_map, option_and_then, unwrap_or, codes}
+use Rattle.std.specs.Prelude.{ℕ, ℤ, pos, List, false, Option, Some, None, map, option_map, option_and_then, unwrap_or, codes}
 use Rattle.serde_json.specs.Data.{Data}
 use Rattle.serde_json.specs.Find.{get}
-use Rattle.dv_form.specs.Members.{flag_of, integer_of, text_of}
-use Rattle.dv_schema.specs.Reading.{at, says, names_of}
+use Rattle.dv_form.specs.Members.{at, says, names_of, flag_of, integer_of, text_of}
 use Rattle.dv_query.specs.Words.{operator_of, join_of}
 use Rattle.dv_query.specs.declared.filter.Condition.{Condition}
 use Rattle.dv_query.specs.declared.filter.Filter.{Filter}
@@ -22,6 +21,10 @@ use Rattle.dv_query.specs.declared.query.PageStart.TheVariants.{Number, Cookie}
 use Rattle.dv_query.specs.declared.query.Query.{Query}
 use Rattle.dv_wire.specs.Deep.{deep}
 use Rattle.dv_wire.specs.Members.{str_at, integer_or, list_at, raws_at}
+
+-- how many rows a page has, where the request doesn't say
+abbrev pub page_size : ℤ
+page_size = pos 5000
 
 -- the operator and the way to join that the words say
 unfoldable pub operator_at : Data → Operator
@@ -72,13 +75,13 @@ start_said None number = Number (unwrap_or (option_map integer_of number) (pos 1
 
 -- a page
 unfoldable pub page_of : Data → Part
-page_of d = Page (integer_or (pos 5000) (codes "size") d) (start_said (get (codes "cookie") d) (get (codes "number") d)) (flag_of (at "total" d))
+page_of d = Page (integer_or page_size (codes "size") d) (start_said (get (codes "cookie") d) (get (codes "number") d)) (flag_of (at "total" d))
 
 -- the part that is asked for, by the top and the page
 unfoldable pub part_said : Option Data → Option Data → Part
 part_said (Some top) page = Top (integer_of top)
 part_said None (Some page) = page_of page
-part_said None None = Page (pos 5000) (Number (pos 1)) false
+part_said None None = Page page_size (Number (pos 1)) false
 
 -- a query
 unfoldable pub query_of : Data → Query

@@ -1,17 +1,21 @@
 -- The request that an object without a fault is. What stands for a member that is missing counts only for one that may be missing: of the others the walk has told a fault before.
-use Rattle.std.specs.Prelude.{ℕ, pos, List, map, option_map, option_and_then, unwrap_or, codes}
+use Rattle.std.specs.Prelude.{ℕ, ℤ, pos, List, map, option_map, option_and_then, unwrap_or, codes}
 use Rattle.serde_json.specs.Data.{Data}
 use Rattle.serde_json.specs.Find.{get}
-use Rattle.dv_form.specs.Members.{flag_of, id_of_json, integer_of, text_of, raw_values_of, list_of}
-use Rattle.dv_schema.specs.Reading.{at, says, names_of, role_of, entry_of}
+use Rattle.dv_form.specs.Members.{at, says, names_of, flag_of, id_of_json, integer_of, text_of, raw_values_of, list_of}
+use Rattle.dv_schema.specs.Reading.{role_of, entry_of}
 use Rattle.dv_request.specs.declared.request.Request.{Request}
 use Rattle.dv_request.specs.declared.request.Request.TheVariants.{Create, Retrieve, Update, Delete, Assign, Grant, Modify, Revoke, Access, Shares, Query, Changes, Rollup, WhoAmI, RollupJob, Trim, Multiple, Transaction, AddUnit, MoveUnit, AddUser, MoveUser, SetEnabled, AddTeam, AddMember, RemoveMember, AddRole, SetPrivileges, GiveRole, TakeRole}
 use Rattle.dv_wire.specs.declared.verb.Verb.{Verb}
 use Rattle.dv_wire.specs.declared.verb.Verb.TheVariants as verb
 use Rattle.dv_wire.specs.Deep.{deep}
-use Rattle.dv_wire.specs.Members.{str_at, integer_or, version_if, token_if}
+use Rattle.dv_wire.specs.Members.{str_at, integer_or, list_at, version_if, token_if}
 use Rattle.dv_wire.specs.Queries.{query_of}
 use Rattle.dv_wire.specs.Verbs.{verb_of}
+
+-- how many changes are given at most, where the request doesn't say
+abbrev pub most_changes : ℤ
+most_changes = pos 5000
 
 -- what a request asks
 unfoldable pub verb_at : Data → Verb
@@ -30,7 +34,7 @@ request_for verb.Revoke d requests = Revoke (text_of (at "table" d)) (id_of_json
 request_for verb.Access d requests = Access (text_of (at "table" d)) (id_of_json (at "id" d)) (option_map id_of_json (get (codes "user") d))
 request_for verb.Shares d requests = Shares (text_of (at "table" d)) (id_of_json (at "id" d))
 request_for verb.Query d requests = Query (query_of d)
-request_for verb.Changes d requests = Changes (text_of (at "table" d)) (token_if (codes "token") d) (integer_or (pos 5000) (codes "count") d)
+request_for verb.Changes d requests = Changes (text_of (at "table" d)) (token_if (codes "token") d) (integer_or most_changes (codes "count") d)
 request_for verb.Rollup d requests = Rollup (text_of (at "table" d)) (id_of_json (at "id" d)) (text_of (at "column" d))
 request_for verb.WhoAmI d requests = WhoAmI
 request_for verb.RollupJob d requests = RollupJob
@@ -56,3 +60,7 @@ request_step d inner = request_for (verb_at d) d (inner (codes "requests"))
 
 unfoldable pub request_of : Data → Request
 request_of d = deep request_step d
+
+-- the requests in a batch
+abbrev pub requests_at : Data → List Request
+requests_at d = map request_of (list_at (codes "requests") d)

@@ -1,5 +1,6 @@
 -- What a request asks is said by a word.
-use Rattle.std.specs.Prelude.{ℕ, List, [], ◌∷◌, Option, codes, find, bytes_eq}
+use Rattle.std.specs.Prelude.{ℕ, List, [], ◌∷◌, Bool, Option, codes, find, bytes_eq}
+use Rattle.std.specs.Option.{is_some}
 use Rattle.dv_wire.specs.declared.verb.Verb.{Verb}
 use Rattle.dv_wire.specs.declared.verb.Verb.TheVariants as verb
 
@@ -36,6 +37,7 @@ verb_word verb.SetPrivileges = codes "setprivileges"
 verb_word verb.GiveRole = codes "giverole"
 verb_word verb.TakeRole = codes "takerole"
 
+-- all that a request can ask
 abbrev pub verbs : List Verb
 verbs =
     verb.Create ∷ verb.Retrieve ∷ verb.Update ∷ verb.Delete ∷ verb.Assign ∷ verb.Grant ∷ verb.Modify ∷ verb.Revoke ∷ verb.Access ∷ verb.Shares
@@ -45,3 +47,7 @@ verbs =
 -- what a word asks
 unfoldable pub verb_of : List ℕ → Option Verb
 verb_of word = find (λ verb. bytes_eq (verb_word verb) word) verbs
+
+-- whether a word is that of a message
+unfoldable pub is_message : List ℕ → Bool
+is_message word = is_some (verb_of word)

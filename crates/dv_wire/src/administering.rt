@@ -1,96 +1,89 @@
-#![tactic(auto, using(dv_form::proofs::Reading::taken), unfolding(crate::specs::Requests::request_for))]
+//! The messages that change the directory, member by member.
+#![tactic(auto, unfolding(crate::specs::Requests::request_for))]
 
 ghost use Rattle.std.specs.Prelude.{◌≡◌, [], IfOk};
 ghost use Rattle.serde_json.specs.View.{view};
 ghost use Rattle.dv_wire.specs.Requests as say;
 
-// The messages that change the directory, member by member.
+use crate::member::{flag_at, id_at, says_word, take_from};
 use crate::verb::Verb;
-use dv_form::{FromJson, members_of, says_at, take_at};
+use dv_form::FromJson;
 use dv_request::Request;
 use dv_schema::Role;
 use serde_json::Value as Json;
 use std::alloc::{AllocError, Global};
 
-pub(crate) fn add_unit(alloc: Global, json: Json) -> Result<Request, AllocError>
-    ensures { IfOk result (λ request. request ≡ say.request_for Verb.AddUnit (view json) []) }
+pub(crate) fn add_unit(json: &Json) -> Request
+    ensures { result ≡ say.request_for Verb.AddUnit (view json.now) [] }
 {
-    let mut members = members_of(alloc, json);
-    Ok(Request::AddUnit {
-        id: take_at(alloc, &mut members, "id")?,
-        parent: take_at(alloc, &mut members, "parent")?,
-    })
+    Request::AddUnit {
+        id: id_at(json, "id"),
+        parent: id_at(json, "parent"),
+    }
 }
 
-pub(crate) fn move_unit(alloc: Global, json: Json) -> Result<Request, AllocError>
-    ensures { IfOk result (λ request. request ≡ say.request_for Verb.MoveUnit (view json) []) }
+pub(crate) fn move_unit(json: &Json) -> Request
+    ensures { result ≡ say.request_for Verb.MoveUnit (view json.now) [] }
 {
-    let mut members = members_of(alloc, json);
-    Ok(Request::MoveUnit {
-        unit: take_at(alloc, &mut members, "unit")?,
-        parent: take_at(alloc, &mut members, "parent")?,
-    })
+    Request::MoveUnit {
+        unit: id_at(json, "unit"),
+        parent: id_at(json, "parent"),
+    }
 }
 
-pub(crate) fn add_user(alloc: Global, json: Json) -> Result<Request, AllocError>
-    ensures { IfOk result (λ request. request ≡ say.request_for Verb.AddUser (view json) []) }
+pub(crate) fn add_user(json: &Json) -> Request
+    ensures { result ≡ say.request_for Verb.AddUser (view json.now) [] }
 {
-    let mut members = members_of(alloc, json);
-    Ok(Request::AddUser {
-        id: take_at(alloc, &mut members, "id")?,
-        unit: take_at(alloc, &mut members, "unit")?,
-    })
+    Request::AddUser {
+        id: id_at(json, "id"),
+        unit: id_at(json, "unit"),
+    }
 }
 
-pub(crate) fn move_user(alloc: Global, json: Json) -> Result<Request, AllocError>
-    ensures { IfOk result (λ request. request ≡ say.request_for Verb.MoveUser (view json) []) }
+pub(crate) fn move_user(json: &Json) -> Request
+    ensures { result ≡ say.request_for Verb.MoveUser (view json.now) [] }
 {
-    let mut members = members_of(alloc, json);
-    Ok(Request::MoveUser {
-        user: take_at(alloc, &mut members, "user")?,
-        unit: take_at(alloc, &mut members, "unit")?,
-    })
+    Request::MoveUser {
+        user: id_at(json, "user"),
+        unit: id_at(json, "unit"),
+    }
 }
 
-pub(crate) fn set_enabled(alloc: Global, json: Json) -> Result<Request, AllocError>
-    ensures { IfOk result (λ request. request ≡ say.request_for Verb.SetEnabled (view json) []) }
+pub(crate) fn set_enabled(json: &Json) -> Request
+    ensures { result ≡ say.request_for Verb.SetEnabled (view json.now) [] }
 {
-    let mut members = members_of(alloc, json);
-    Ok(Request::SetEnabled {
-        user: take_at(alloc, &mut members, "user")?,
-        enabled: take_at(alloc, &mut members, "enabled")?,
-    })
+    Request::SetEnabled {
+        user: id_at(json, "user"),
+        enabled: flag_at(json, "enabled"),
+    }
 }
 
-pub(crate) fn add_team(alloc: Global, json: Json) -> Result<Request, AllocError>
-    ensures { IfOk result (λ request. request ≡ say.request_for Verb.AddTeam (view json) []) }
+pub(crate) fn add_team(json: &Json) -> Request
+    ensures { result ≡ say.request_for Verb.AddTeam (view json.now) [] }
 {
-    let mut members = members_of(alloc, json);
-    Ok(Request::AddTeam {
-        id: take_at(alloc, &mut members, "id")?,
-        unit: take_at(alloc, &mut members, "unit")?,
-        access: says_at(&members, "kind", "access"),
-    })
+    Request::AddTeam {
+        id: id_at(json, "id"),
+        unit: id_at(json, "unit"),
+        access: says_word(json, "kind", "access"),
+    }
 }
 
-pub(crate) fn add_member(alloc: Global, json: Json) -> Result<Request, AllocError>
-    ensures { IfOk result (λ request. request ≡ say.request_for Verb.AddMember (view json) []) }
+pub(crate) fn add_member(json: &Json) -> Request
+    ensures { result ≡ say.request_for Verb.AddMember (view json.now) [] }
 {
-    let mut members = members_of(alloc, json);
-    Ok(Request::AddMember {
-        team: take_at(alloc, &mut members, "team")?,
-        user: take_at(alloc, &mut members, "user")?,
-    })
+    Request::AddMember {
+        team: id_at(json, "team"),
+        user: id_at(json, "user"),
+    }
 }
 
-pub(crate) fn remove_member(alloc: Global, json: Json) -> Result<Request, AllocError>
-    ensures { IfOk result (λ request. request ≡ say.request_for Verb.RemoveMember (view json) []) }
+pub(crate) fn remove_member(json: &Json) -> Request
+    ensures { result ≡ say.request_for Verb.RemoveMember (view json.now) [] }
 {
-    let mut members = members_of(alloc, json);
-    Ok(Request::RemoveMember {
-        team: take_at(alloc, &mut members, "team")?,
-        user: take_at(alloc, &mut members, "user")?,
-    })
+    Request::RemoveMember {
+        team: id_at(json, "team"),
+        user: id_at(json, "user"),
+    }
 }
 
 pub(crate) fn add_role(alloc: Global, json: Json) -> Result<Request, AllocError>
@@ -104,30 +97,27 @@ pub(crate) fn add_role(alloc: Global, json: Json) -> Result<Request, AllocError>
 pub(crate) fn set_privileges(alloc: Global, json: Json) -> Result<Request, AllocError>
     ensures { IfOk result (λ request. request ≡ say.request_for Verb.SetPrivileges (view json) []) }
 {
-    let mut members = members_of(alloc, json);
     Ok(Request::SetPrivileges {
-        role: take_at(alloc, &mut members, "role")?,
-        manage: take_at(alloc, &mut members, "manage")?,
-        privileges: take_at(alloc, &mut members, "privileges")?,
+        role: id_at(&json, "role"),
+        manage: flag_at(&json, "manage"),
+        privileges: take_from(alloc, json, "privileges")?,
     })
 }
 
-pub(crate) fn give_role(alloc: Global, json: Json) -> Result<Request, AllocError>
-    ensures { IfOk result (λ request. request ≡ say.request_for Verb.GiveRole (view json) []) }
+pub(crate) fn give_role(json: &Json) -> Request
+    ensures { result ≡ say.request_for Verb.GiveRole (view json.now) [] }
 {
-    let mut members = members_of(alloc, json);
-    Ok(Request::GiveRole {
-        role: take_at(alloc, &mut members, "role")?,
-        to: take_at(alloc, &mut members, "to")?,
-    })
+    Request::GiveRole {
+        role: id_at(json, "role"),
+        to: id_at(json, "to"),
+    }
 }
 
-pub(crate) fn take_role(alloc: Global, json: Json) -> Result<Request, AllocError>
-    ensures { IfOk result (λ request. request ≡ say.request_for Verb.TakeRole (view json) []) }
+pub(crate) fn take_role(json: &Json) -> Request
+    ensures { result ≡ say.request_for Verb.TakeRole (view json.now) [] }
 {
-    let mut members = members_of(alloc, json);
-    Ok(Request::TakeRole {
-        role: take_at(alloc, &mut members, "role")?,
-        to: take_at(alloc, &mut members, "to")?,
-    })
+    Request::TakeRole {
+        role: id_at(json, "role"),
+        to: id_at(json, "to"),
+    }
 }

@@ -1,8 +1,11 @@
+//! The tables of the grammar of requests.
 ghost use Rattle.std.specs.Prelude.{◌≡◌, map};
-ghost use Rattle.dv_form.specs.Tables.{table_of, member_of};
-ghost use Rattle.dv_wire.specs.Grammar.{rules, plain_table};
+ghost use Rattle.dv_form.specs.Schemas.{schema_of, member_of};
+ghost use Rattle.dv_wire.specs.Grammar.{rules, plain_schema, schema_by_do, messages};
+ghost use Rattle.dv_wire.specs.Grammar as say;
 
-use dv_form::{Bar, Case, Form, Grammar, Member, Spelling, Table};
+use crate::verb::Verb;
+use dv_form::{Case, Exclusion, Form, Grammar, Member, Schema, Spelling};
 
 /// The objects of a request.
 #[derive(Clone, Copy)]
@@ -11,6 +14,8 @@ pub(crate) enum Rule {
     Request,
     /// A request in a batch, which has no caller.
     Item,
+    /// A request whose caller and message are known from elsewhere.
+    Body(Verb),
     Page,
     Filter,
     Condition,
@@ -21,23 +26,16 @@ pub(crate) enum Rule {
 impl Grammar for Rule {
     ghost use Rattle.dv_wire.specs.Grammar.{rules};
 
-    ghost tables = { rules };
+    ghost schemas = { rules };
 
-    #[tactic(auto, unfolding(crate::specs::Grammar::rules))]
-    fn table(self) -> Table<Rule>
-        ensures { table_of result ≡ rules self }
+    #[tactic(auto, unfolding(crate::specs::Grammar::rules, crate::specs::Verbs::verb_word, dv_query::specs::Words::join_word, dv_query::specs::Words::operator_word))]
+    fn schema(self) -> Schema<Rule>
+        ensures { schema_of result ≡ rules self }
     {
         match self {
-            Rule::Request => Table {
-                members: REQUEST,
-                decided_by: Some("do"),
-                cases: MESSAGES,
-            },
-            Rule::Item => Table {
-                members: ITEM,
-                decided_by: Some("do"),
-                cases: MESSAGES,
-            },
+            Rule::Request => by_message(REQUEST),
+            Rule::Item => by_message(ITEM),
+            Rule::Body(verb) => plain(members_for(verb)),
             Rule::Page => plain(PAGE_MEMBERS),
             Rule::Filter => plain(FILTER_MEMBERS),
             Rule::Condition => plain(CONDITION_MEMBERS),
@@ -47,15 +45,35 @@ impl Grammar for Rule {
     }
 }
 
-// A table whose members hang on no word.
-fn plain(members: &'static [Member<Rule>]) -> Table<Rule>
-    ensures { table_of result ≡ plain_table (map member_of members.now) }
+// A schema whose members don't depend on a word.
+fn plain(members: &'static [Member<Rule>]) -> Schema<Rule>
+    ensures { schema_of result ≡ plain_schema (map member_of members.now) }
 {
-    Table {
+    Schema {
         members,
         decided_by: None,
         cases: &[],
     }
+}
+
+// A schema whose further members hang on the word of the message.
+#[tactic(auto, unfolding(crate::specs::Grammar::messages, crate::specs::Grammar::members_for, crate::specs::Verbs::verb_word, dv_schema::specs::Words::action_word))]
+fn by_message(members: &'static [Member<Rule>]) -> Schema<Rule>
+    ensures { schema_of result ≡ schema_by_do (map member_of members.now) messages }
+{
+    Schema {
+        members,
+        decided_by: Some("do"),
+        cases: MESSAGES,
+    }
+}
+
+// The members of a message.
+#[tactic(auto, unfolding(crate::specs::Grammar::members_for, dv_schema::specs::Words::action_word))]
+fn members_for(verb: Verb) -> &'static [Member<Rule>]
+    ensures { map member_of result.now ≡ say.members_for verb }
+{
+    MESSAGES[verb as usize].members
 }
 
 // A member that must be given.
@@ -65,7 +83,7 @@ macro_rules! needs {
             name: $name,
             needed: true,
             form: $form,
-            barred: &[],
+            excluded_by: &[],
         }
     };
 }
@@ -77,7 +95,7 @@ macro_rules! may {
             name: $name,
             needed: false,
             form: $form,
-            barred: &[],
+            excluded_by: &[],
         }
     };
 }
@@ -89,7 +107,7 @@ macro_rules! unless {
             name: $name,
             needed: false,
             form: $form,
-            barred: &[Bar::Given($other)],
+            excluded_by: &[Exclusion::Given($other)],
         }
     };
 }
@@ -129,7 +147,7 @@ const REQUESTS: Form<Rule> = Form::Objects(Rule::Item, None);
 // An owner team or an access team.
 const TEAM_KIND: Form<Rule> = Form::Value(Spelling::WordAmong(&["owner", "access"]));
 
-// Whether a role given to a team counts for the team alone or as its members own.
+// Whether a role that is given to a team is for the team alone, or also for each of its members.
 const INHERITANCE: Form<Rule> = Form::Value(Spelling::WordAmong(&["team", "direct"]));
 
 // Whether all parts of a filter must hold or one is enough.
@@ -192,212 +210,133 @@ const REQUEST: &[Member<Rule>] = &[needs!("caller", ID), needs!("do", MESSAGE)];
 const ITEM: &[Member<Rule>] = &[needs!("do", MESSAGE)];
 
 // The words of the messages.
-const MESSAGE: Form<Rule> = Form::Value(Spelling::WordAmong(&[
-    "create",
-    "retrieve",
-    "update",
-    "delete",
-    "assign",
-    "grant",
-    "modify",
-    "revoke",
-    "access",
-    "shares",
-    "query",
-    "changes",
-    "rollup",
-    "whoami",
-    "rollupjob",
-    "trim",
-    "multiple",
-    "transaction",
-    "addunit",
-    "moveunit",
-    "adduser",
-    "moveuser",
-    "setenabled",
-    "addteam",
-    "addmember",
-    "removemember",
-    "addrole",
-    "setprivileges",
-    "giverole",
-    "takerole",
-]));
+const MESSAGE: Form<Rule> = Form::Value(Spelling::WordAmong(WORDS));
 
-// The messages.
-const MESSAGES: &[Case<Rule>] = &[
-    Case {
-        word: "create",
-        members: &[
-            needs!("table", TEXT),
-            may!("id", ID),
-            needs!("values", VALUES),
-        ],
-    },
-    Case {
-        word: "retrieve",
-        members: &[
-            needs!("table", TEXT),
-            needs!("id", ID),
-            may!("columns", NAMES),
-        ],
-    },
-    Case {
-        word: "update",
-        members: &[
-            needs!("table", TEXT),
-            needs!("id", ID),
-            needs!("values", VALUES),
-            may!("version", VERSION),
-        ],
-    },
-    Case {
-        word: "delete",
-        members: &[
-            needs!("table", TEXT),
-            needs!("id", ID),
-            may!("version", VERSION),
-        ],
-    },
-    Case {
-        word: "assign",
-        members: &[needs!("table", TEXT), needs!("id", ID), needs!("owner", ID)],
-    },
-    Case {
-        word: "grant",
-        members: GIVING,
-    },
-    Case {
-        word: "modify",
-        members: GIVING,
-    },
-    Case {
-        word: "revoke",
-        members: &[
-            needs!("table", TEXT),
-            needs!("id", ID),
-            needs!("principal", ID),
-        ],
-    },
-    Case {
-        word: "access",
-        members: &[needs!("table", TEXT), needs!("id", ID), may!("user", ID)],
-    },
-    Case {
-        word: "shares",
-        members: &[needs!("table", TEXT), needs!("id", ID)],
-    },
-    Case {
-        word: "query",
-        members: &[
-            needs!("table", TEXT),
-            may!("columns", NAMES),
-            may!("filter", FILTER),
-            may!("links", LINKS),
-            may!("orders", ORDERS),
-            unless!("page", "top", INTEGER),
-            may!("page", PAGE),
-        ],
-    },
-    Case {
-        word: "changes",
-        members: &[
-            needs!("table", TEXT),
-            may!("token", TOKEN),
-            may!("count", INTEGER),
-        ],
-    },
-    Case {
-        word: "rollup",
-        members: &[
-            needs!("table", TEXT),
-            needs!("id", ID),
-            needs!("column", TEXT),
-        ],
-    },
-    Case {
-        word: "whoami",
-        members: &[],
-    },
-    Case {
-        word: "rollupjob",
-        members: &[],
-    },
-    Case {
-        word: "trim",
-        members: &[needs!("token", VERSION)],
-    },
-    Case {
-        word: "multiple",
-        members: &[needs!("requests", REQUESTS), may!("continue", FLAG)],
-    },
-    Case {
-        word: "transaction",
-        members: &[needs!("requests", REQUESTS)],
-    },
-    Case {
-        word: "addunit",
-        members: &[needs!("id", ID), needs!("parent", ID)],
-    },
-    Case {
-        word: "moveunit",
-        members: &[needs!("unit", ID), needs!("parent", ID)],
-    },
-    Case {
-        word: "adduser",
-        members: &[needs!("id", ID), needs!("unit", ID)],
-    },
-    Case {
-        word: "moveuser",
-        members: &[needs!("user", ID), needs!("unit", ID)],
-    },
-    Case {
-        word: "setenabled",
-        members: &[needs!("user", ID), needs!("enabled", FLAG)],
-    },
-    Case {
-        word: "addteam",
-        members: &[
-            needs!("id", ID),
-            needs!("unit", ID),
-            needs!("kind", TEAM_KIND),
-        ],
-    },
-    Case {
-        word: "addmember",
-        members: &[needs!("team", ID), needs!("user", ID)],
-    },
-    Case {
-        word: "removemember",
-        members: &[needs!("team", ID), needs!("user", ID)],
-    },
-    Case {
-        word: "addrole",
-        members: &[
-            needs!("id", ID),
-            needs!("inheritance", INHERITANCE),
-            may!("manage", FLAG),
-            needs!("privileges", PRIVILEGES),
-        ],
-    },
-    Case {
-        word: "setprivileges",
-        members: &[
-            needs!("role", ID),
-            may!("manage", FLAG),
-            needs!("privileges", PRIVILEGES),
-        ],
-    },
-    Case {
-        word: "giverole",
-        members: &[needs!("role", ID), needs!("to", ID)],
-    },
-    Case {
-        word: "takerole",
-        members: &[needs!("role", ID), needs!("to", ID)],
-    },
-];
+// The messages, in the order of `Verb`: what each asks, its word, and its members besides the word.
+macro_rules! messages {
+    ($column:ident) => {
+        [
+            $column!(Create, "create", &[
+                needs!("table", TEXT),
+                may!("id", ID),
+                needs!("values", VALUES),
+            ]),
+            $column!(Retrieve, "retrieve", &[
+                needs!("table", TEXT),
+                needs!("id", ID),
+                may!("columns", NAMES),
+            ]),
+            $column!(Update, "update", &[
+                needs!("table", TEXT),
+                needs!("id", ID),
+                needs!("values", VALUES),
+                may!("version", VERSION),
+            ]),
+            $column!(Delete, "delete", &[
+                needs!("table", TEXT),
+                needs!("id", ID),
+                may!("version", VERSION),
+            ]),
+            $column!(Assign, "assign", &[
+                needs!("table", TEXT),
+                needs!("id", ID),
+                needs!("owner", ID),
+            ]),
+            $column!(Grant, "grant", GIVING),
+            $column!(Modify, "modify", GIVING),
+            $column!(Revoke, "revoke", &[
+                needs!("table", TEXT),
+                needs!("id", ID),
+                needs!("principal", ID),
+            ]),
+            $column!(Access, "access", &[
+                needs!("table", TEXT),
+                needs!("id", ID),
+                may!("user", ID),
+            ]),
+            $column!(Shares, "shares", &[needs!("table", TEXT), needs!("id", ID)]),
+            $column!(Query, "query", &[
+                needs!("table", TEXT),
+                may!("columns", NAMES),
+                may!("filter", FILTER),
+                may!("links", LINKS),
+                may!("orders", ORDERS),
+                unless!("page", "top", INTEGER),
+                may!("page", PAGE),
+            ]),
+            $column!(Changes, "changes", &[
+                needs!("table", TEXT),
+                may!("token", TOKEN),
+                may!("count", INTEGER),
+            ]),
+            $column!(Rollup, "rollup", &[
+                needs!("table", TEXT),
+                needs!("id", ID),
+                needs!("column", TEXT),
+            ]),
+            $column!(WhoAmI, "whoami", &[]),
+            $column!(RollupJob, "rollupjob", &[]),
+            $column!(Trim, "trim", &[needs!("token", VERSION)]),
+            $column!(Multiple, "multiple", &[needs!("requests", REQUESTS), may!("continue", FLAG)]),
+            $column!(Transaction, "transaction", &[needs!("requests", REQUESTS)]),
+            $column!(AddUnit, "addunit", &[needs!("id", ID), needs!("parent", ID)]),
+            $column!(MoveUnit, "moveunit", &[needs!("unit", ID), needs!("parent", ID)]),
+            $column!(AddUser, "adduser", &[needs!("id", ID), needs!("unit", ID)]),
+            $column!(MoveUser, "moveuser", &[needs!("user", ID), needs!("unit", ID)]),
+            $column!(SetEnabled, "setenabled", &[needs!("user", ID), needs!("enabled", FLAG)]),
+            $column!(AddTeam, "addteam", &[
+                needs!("id", ID),
+                needs!("unit", ID),
+                needs!("kind", TEAM_KIND),
+            ]),
+            $column!(AddMember, "addmember", &[needs!("team", ID), needs!("user", ID)]),
+            $column!(RemoveMember, "removemember", &[needs!("team", ID), needs!("user", ID)]),
+            $column!(AddRole, "addrole", &[
+                needs!("id", ID),
+                needs!("inheritance", INHERITANCE),
+                may!("manage", FLAG),
+                needs!("privileges", PRIVILEGES),
+            ]),
+            $column!(SetPrivileges, "setprivileges", &[
+                needs!("role", ID),
+                may!("manage", FLAG),
+                needs!("privileges", PRIVILEGES),
+            ]),
+            $column!(GiveRole, "giverole", &[needs!("role", ID), needs!("to", ID)]),
+            $column!(TakeRole, "takerole", &[needs!("role", ID), needs!("to", ID)]),
+        ]
+    };
+}
+
+macro_rules! verb {
+    ($verb:ident, $word:expr, $members:expr) => {
+        Verb::$verb
+    };
+}
+
+macro_rules! word {
+    ($verb:ident, $word:expr, $members:expr) => {
+        $word
+    };
+}
+
+macro_rules! case {
+    ($verb:ident, $word:expr, $members:expr) => {
+        Case {
+            word: $word,
+            members: $members,
+        }
+    };
+}
+
+/// What a request can ask, in the order of `Verb`.
+pub(crate) const VERBS: [Verb; 30] = messages!(verb);
+
+/// The word of each.
+pub(crate) const WORDS: &[&str] = &messages!(word);
+
+// The members of each.
+const MESSAGES: &[Case<Rule>] = &messages!(case);
 
 // What gives rights: a row, who gets them, and which.
 const GIVING: &[Member<Rule>] = &[

@@ -1,21 +1,24 @@
-ghost use Rattle.std.specs.Prelude.{◌≡◌, map, unwrap_or, option_map, IfOk, codes, []};
-ghost use Rattle.serde_json.specs.Data.{object};
-ghost use Rattle.serde_json.specs.Find.{get_member};
+//! The query of a request, with its filters, links and orders.
+ghost use Rattle.std.specs.Prelude.{◌≡◌, map, option_map, IfOk, codes};
+ghost use Rattle.serde_json.specs.Find.{get, get_member};
 ghost use Rattle.serde_json.specs.View.{view, members_view};
 ghost use Rattle.dv_value.specs.Json.{without};
-ghost use Rattle.dv_wire.specs.Members.{list_in};
+ghost use Rattle.dv_wire.specs.Members.{items_in};
 ghost use Rattle.dv_wire.specs.Queries as say;
 
-use crate::member::{integer_or, raws_of, take_items, take_list};
-use dv_form::{members_of, says_at, take_at, take_given, text_at};
+use crate::member::{flag_at, integer_or, raws_of, says_word, take_items, take_list};
+use dv_form::{members_of, take_at, take_given};
 use dv_query::{Condition, Filter, Join, Link, Operator, Order, PageStart, Part, Query};
 use dv_value::{Text, items_with_capacity, take_member};
 use serde_json::{Map, Value as Json};
 use sqlite_items::Items;
 use std::alloc::{AllocError, Global};
 
+// How many rows a page has, where the request doesn't say.
+const PAGE_SIZE: i64 = 5000;
+
 // The query that an object without a fault is.
-#[tactic(auto, using(dv_form::proofs::Reading::taken), unfolding(crate::specs::Queries::query_of, crate::specs::Queries::filter_at, crate::specs::Members::list_if))]
+#[tactic(auto, unfolding(crate::specs::Queries::query_of, crate::specs::Queries::filter_at, crate::specs::Members::list_if))]
 pub(crate) fn query_of(alloc: Global, json: Json) -> Result<Query, AllocError>
     ensures { IfOk result (λ query. query ≡ say.query_of (view json)) }
 {
@@ -31,9 +34,11 @@ pub(crate) fn query_of(alloc: Global, json: Json) -> Result<Query, AllocError>
 }
 
 // The part of the answer that is asked for.
-#[tactic(auto, using(dv_form::proofs::Reading::taken), unfolding(crate::specs::Queries::part_said))]
+#[tactic(auto, unfolding(crate::specs::Queries::part_said))]
 fn part_of(alloc: Global, members: &mut Map<String, Json>) -> Result<Part, AllocError>
-    ensures { IfOk result (λ part. part ≡ say.part_said (get_member (codes "top") (members_view members.old.entries)) (get_member (codes "page") (members_view members.old.entries))) }
+    ensures { IfOk result (λ part. part ≡ say.part_said
+        (get_member (codes "top") (members_view members.old.entries))
+        (get_member (codes "page") (members_view members.old.entries))) }
 {
     let top: Option<i64> = take_given(alloc, members, "top")?;
     if let Some(n) = top {
@@ -42,7 +47,7 @@ fn part_of(alloc: Global, members: &mut Map<String, Json>) -> Result<Part, Alloc
     match take_member(members, "page") {
         Some(page) => Ok(page_of(alloc, page)?),
         None => Ok(Part::Page {
-            size: 5000,
+            size: PAGE_SIZE,
             from: PageStart::Number(1),
             total: false,
         }),
@@ -50,27 +55,29 @@ fn part_of(alloc: Global, members: &mut Map<String, Json>) -> Result<Part, Alloc
 }
 
 // The page that an object is.
-#[tactic(auto, using(dv_form::proofs::Reading::taken), unfolding(crate::specs::Queries::page_of))]
+#[tactic(auto, unfolding(crate::specs::Queries::page_of))]
 fn page_of(alloc: Global, json: Json) -> Result<Part, AllocError>
     ensures { IfOk result (λ part. part ≡ say.page_of (view json)) }
 {
-    let mut members = members_of(alloc, json);
     Ok(Part::Page {
-        size: integer_or(alloc, 5000, &mut members, "size")?,
-        total: take_at(alloc, &mut members, "total")?,
-        from: start_of(alloc, &mut members)?,
+        size: integer_or(PAGE_SIZE, &json, "size"),
+        total: flag_at(&json, "total"),
+        from: start_of(alloc, json)?,
     })
 }
 
 // Where a page begins.
-#[tactic(auto, using(dv_form::proofs::Reading::taken), unfolding(crate::specs::Queries::start_said))]
-fn start_of(alloc: Global, members: &mut Map<String, Json>) -> Result<PageStart, AllocError>
-    ensures { IfOk result (λ start. start ≡ say.start_said (get_member (codes "cookie") (members_view members.old.entries)) (get_member (codes "number") (members_view members.old.entries))) }
+#[tactic(auto, unfolding(crate::specs::Queries::start_said))]
+fn start_of(alloc: Global, json: Json) -> Result<PageStart, AllocError>
+    ensures { IfOk result (λ start. start
+        ≡ say.start_said (get (codes "cookie") (view json)) (get (codes "number") (view json))) }
 {
-    let cookie: Option<Text> = take_given(alloc, members, "cookie")?;
+    let number = integer_or(1, &json, "number");
+    let mut members = members_of(alloc, json);
+    let cookie: Option<Text> = take_given(alloc, &mut members, "cookie")?;
     match cookie {
         Some(cookie) => Ok(PageStart::Cookie(cookie)),
-        None => Ok(PageStart::Number(integer_or(alloc, 1, members, "number")?)),
+        None => Ok(PageStart::Number(number)),
     }
 }
 
@@ -86,22 +93,25 @@ fn orders_of(alloc: Global, items: Vec<Json>) -> Result<Items<Order>, AllocError
 }
 
 // The order that an object is.
-#[tactic(auto, using(dv_form::proofs::Reading::taken), unfolding(crate::specs::Queries::order_of))]
+#[tactic(auto, unfolding(crate::specs::Queries::order_of))]
 fn order_of(alloc: Global, json: Json) -> Result<Order, AllocError>
     ensures { IfOk result (λ order. order ≡ say.order_of (view json)) }
 {
+    let descending = flag_at(&json, "desc");
     let mut members = members_of(alloc, json);
     Ok(Order {
         column: take_at(alloc, &mut members, "column")?,
         link: take_given(alloc, &mut members, "link")?,
-        descending: take_at(alloc, &mut members, "desc")?,
+        descending,
     })
 }
 
 // The filter of an object that may have one, which is taken out of it.
 fn filter_at(alloc: Global, members: &mut Map<String, Json>) -> Result<Option<Filter>, AllocError>
-    ensures value { IfOk result (λ filter. filter ≡ option_map say.filter_of (get_member (codes "filter") (members_view members.old.entries))) }
-    ensures rest { members_view members.new.entries ≡ without (codes "filter") (members_view members.old.entries) }
+    ensures value { IfOk result (λ filter. filter ≡ option_map say.filter_of
+        (get_member (codes "filter") (members_view members.old.entries))) }
+    ensures rest { members_view members.new.entries
+        ≡ without (codes "filter") (members_view members.old.entries) }
 {
     match take_member(members, "filter") {
         Some(filter) => Ok(Some(filter_of(alloc, filter)?)),
@@ -114,10 +124,11 @@ fn filter_at(alloc: Global, members: &mut Map<String, Json>) -> Result<Option<Fi
 fn filter_of(alloc: Global, json: Json) -> Result<Filter, AllocError>
     ensures { IfOk result (λ filter. filter ≡ say.filter_of (view json)) }
 {
+    let any = says_word(&json, "op", "or");
     let mut members = members_of(alloc, json);
     let filters = filters_in(alloc, &mut members)?;
     Ok(Filter {
-        any: says_at(&members, "op", "or"),
+        any,
         conditions: conditions_of(alloc, take_items(alloc, &mut members, "conditions"))?,
         filters,
     })
@@ -126,8 +137,10 @@ fn filter_of(alloc: Global, json: Json) -> Result<Filter, AllocError>
 // The filters in a filter.
 #[cycle(filters)]
 fn filters_in(alloc: Global, members: &mut Map<String, Json>) -> Result<Items<Filter>, AllocError>
-    ensures value { IfOk result (λ filters. filters ≡ map say.filter_of (unwrap_or (list_in (codes "filters") (members_view members.old.entries)) [])) }
-    ensures rest { members_view members.new.entries ≡ without (codes "filters") (members_view members.old.entries) }
+    ensures value { IfOk result (λ filters. filters
+        ≡ map say.filter_of (items_in (codes "filters") (members_view members.old.entries))) }
+    ensures rest { members_view members.new.entries
+        ≡ without (codes "filters") (members_view members.old.entries) }
 {
     match take_list(members, "filters") {
         Some(items) => Ok(filters_of(alloc, items)?),
@@ -159,25 +172,26 @@ fn conditions_of(alloc: Global, items: Vec<Json>) -> Result<Items<Condition>, Al
 }
 
 // The condition that an object is.
-#[tactic(auto, using(dv_form::proofs::Reading::taken), unfolding(crate::specs::Queries::condition_of, crate::specs::Queries::operator_at, crate::specs::Members::list_if))]
+#[tactic(auto, unfolding(crate::specs::Queries::condition_of, crate::specs::Queries::operator_at, crate::specs::Members::list_if))]
 fn condition_of(alloc: Global, json: Json) -> Result<Condition, AllocError>
     ensures { IfOk result (λ condition. condition ≡ say.condition_of (view json)) }
 {
+    let operator = operator_at(&json);
     let mut members = members_of(alloc, json);
     Ok(Condition {
         column: take_at(alloc, &mut members, "column")?,
         link: take_given(alloc, &mut members, "link")?,
-        operator: operator_at(&members),
+        operator,
         values: raws_of(alloc, take_items(alloc, &mut members, "values"))?,
     })
 }
 
 // The operator of a condition.
 #[tactic(auto, unfolding(crate::specs::Queries::operator_at))]
-fn operator_at(members: &Map<String, Json>) -> Operator
-    ensures { result ≡ say.operator_at (object (members_view members.now.entries)) }
+fn operator_at(json: &Json) -> Operator
+    ensures { result ≡ say.operator_at (view json.now) }
 {
-    match text_at(members, "is") {
+    match json.get("is").and_then(Json::as_str) {
         Some(word) => Operator::parse(word).unwrap_or(Operator::Eq),
         None => Operator::Eq,
     }
@@ -185,10 +199,10 @@ fn operator_at(members: &Map<String, Json>) -> Operator
 
 // The way to join of a link.
 #[tactic(auto, unfolding(crate::specs::Queries::join_at))]
-fn join_at(members: &Map<String, Json>) -> Join
-    ensures { result ≡ say.join_at (object (members_view members.now.entries)) }
+fn join_at(json: &Json) -> Join
+    ensures { result ≡ say.join_at (view json.now) }
 {
-    match text_at(members, "join") {
+    match json.get("join").and_then(Json::as_str) {
         Some(word) => Join::parse(word).unwrap_or(Join::Inner),
         None => Join::Inner,
     }
@@ -199,13 +213,14 @@ fn join_at(members: &Map<String, Json>) -> Join
 fn link_of(alloc: Global, json: Json) -> Result<Link, AllocError>
     ensures { IfOk result (λ link. link ≡ say.link_of (view json)) }
 {
+    let join = join_at(&json);
     let mut members = members_of(alloc, json);
     let links = links_under(alloc, &mut members)?;
     Ok(Link {
         table: take_at(alloc, &mut members, "table")?,
         from: take_at(alloc, &mut members, "from")?,
         to: take_at(alloc, &mut members, "to")?,
-        join: join_at(&members),
+        join,
         alias: take_given(alloc, &mut members, "alias")?,
         columns: take_at(alloc, &mut members, "columns")?,
         filter: filter_at(alloc, &mut members)?,
@@ -216,8 +231,10 @@ fn link_of(alloc: Global, json: Json) -> Result<Link, AllocError>
 // The links under a link.
 #[cycle(links)]
 fn links_under(alloc: Global, members: &mut Map<String, Json>) -> Result<Items<Link>, AllocError>
-    ensures value { IfOk result (λ links. links ≡ map say.link_of (unwrap_or (list_in (codes "links") (members_view members.old.entries)) [])) }
-    ensures rest { members_view members.new.entries ≡ without (codes "links") (members_view members.old.entries) }
+    ensures value { IfOk result (λ links. links
+        ≡ map say.link_of (items_in (codes "links") (members_view members.old.entries))) }
+    ensures rest { members_view members.new.entries
+        ≡ without (codes "links") (members_view members.old.entries) }
 {
     match take_list(members, "links") {
         Some(items) => Ok(links_of(alloc, items)?),

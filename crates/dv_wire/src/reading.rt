@@ -1,13 +1,14 @@
-ghost use Rattle.std.specs.Prelude.{◌≡◌, [], map, unwrap_or, IfOk, codes};
+//! The request that an object without a fault is, by its message.
+ghost use Rattle.std.specs.Prelude.{◌≡◌, map, IfOk, codes};
 ghost use Rattle.serde_json.specs.View.{view, members_view};
 ghost use Rattle.dv_value.specs.Json.{without};
-ghost use Rattle.dv_wire.specs.Members.{list_in, list_at as items_under};
+ghost use Rattle.dv_wire.specs.Members.{items_in};
 ghost use Rattle.dv_wire.specs.Requests as say;
 
-use crate::member::take_list;
+use crate::member::{flag_at, take_list};
 use crate::verb::Verb;
 use crate::{administering as admin, asking as ask};
-use dv_form::{members_of, take_at};
+use dv_form::members_of;
 use dv_request::Request;
 use dv_value::items_with_capacity;
 use serde_json::{Map, Value as Json};
@@ -29,67 +30,71 @@ fn verb_at(json: &Json) -> Verb
     ensures { result ≡ say.verb_at (view json.now) }
 {
     match json.get("do").and_then(Json::as_str) {
-        Some(word) => Verb::parse(word).unwrap_or(Verb::WhoAmI),
+        Some(word) => Verb::parse(word.as_bytes()).unwrap_or(Verb::WhoAmI),
         None => Verb::WhoAmI,
     }
 }
 
-// The request that asks this.
+/// The request of a message with these members.
 #[cycle(requests)]
 #[tactic(auto, unfolding(crate::specs::Requests::request_for))]
-fn request_for(alloc: Global, verb: Verb, json: Json) -> Result<Request, AllocError>
-    ensures { IfOk result (λ request. request ≡ say.request_for verb (view json) (map say.request_of (items_under (codes "requests") (view json)))) }
+pub(crate) fn request_for(alloc: Global, verb: Verb, json: Json) -> Result<Request, AllocError>
+    ensures { IfOk result (λ request. request
+        ≡ say.request_for verb (view json) (say.requests_at (view json))) }
 {
     match verb {
-        Verb::Create => Ok(ask::create(alloc, json)?),
-        Verb::Retrieve => Ok(ask::retrieve(alloc, json)?),
-        Verb::Update => Ok(ask::update(alloc, json)?),
-        Verb::Delete => Ok(ask::delete(alloc, json)?),
-        Verb::Assign => Ok(ask::assign(alloc, json)?),
-        Verb::Grant => Ok(ask::grant(alloc, json)?),
-        Verb::Modify => Ok(ask::modify(alloc, json)?),
-        Verb::Revoke => Ok(ask::revoke(alloc, json)?),
-        Verb::Access => Ok(ask::access(alloc, json)?),
-        Verb::Shares => Ok(ask::shares(alloc, json)?),
-        Verb::Query => Ok(ask::query(alloc, json)?),
-        Verb::Changes => Ok(ask::changes(alloc, json)?),
-        Verb::Rollup => Ok(ask::rollup(alloc, json)?),
+        Verb::Create => ask::create(alloc, json),
+        Verb::Retrieve => ask::retrieve(alloc, json),
+        Verb::Update => ask::update(alloc, json),
+        Verb::Delete => ask::delete(alloc, json),
+        Verb::Assign => ask::assign(alloc, json),
+        Verb::Grant => ask::grant(alloc, json),
+        Verb::Modify => ask::modify(alloc, json),
+        Verb::Revoke => ask::revoke(alloc, json),
+        Verb::Access => ask::access(alloc, json),
+        Verb::Shares => ask::shares(alloc, json),
+        Verb::Query => ask::query(alloc, json),
+        Verb::Changes => ask::changes(alloc, json),
+        Verb::Rollup => ask::rollup(alloc, json),
         Verb::WhoAmI => Ok(Request::WhoAmI),
         Verb::RollupJob => Ok(Request::RollupJob),
-        Verb::Trim => Ok(ask::trim(alloc, json)),
-        Verb::Multiple => Ok(multiple(alloc, json)?),
-        Verb::Transaction => Ok(transaction(alloc, json)?),
-        Verb::AddUnit => Ok(admin::add_unit(alloc, json)?),
-        Verb::MoveUnit => Ok(admin::move_unit(alloc, json)?),
-        Verb::AddUser => Ok(admin::add_user(alloc, json)?),
-        Verb::MoveUser => Ok(admin::move_user(alloc, json)?),
-        Verb::SetEnabled => Ok(admin::set_enabled(alloc, json)?),
-        Verb::AddTeam => Ok(admin::add_team(alloc, json)?),
-        Verb::AddMember => Ok(admin::add_member(alloc, json)?),
-        Verb::RemoveMember => Ok(admin::remove_member(alloc, json)?),
-        Verb::AddRole => Ok(admin::add_role(alloc, json)?),
-        Verb::SetPrivileges => Ok(admin::set_privileges(alloc, json)?),
-        Verb::GiveRole => Ok(admin::give_role(alloc, json)?),
-        Verb::TakeRole => Ok(admin::take_role(alloc, json)?),
+        Verb::Trim => Ok(ask::trim(&json)),
+        Verb::Multiple => multiple(alloc, json),
+        Verb::Transaction => transaction(alloc, json),
+        Verb::AddUnit => Ok(admin::add_unit(&json)),
+        Verb::MoveUnit => Ok(admin::move_unit(&json)),
+        Verb::AddUser => Ok(admin::add_user(&json)),
+        Verb::MoveUser => Ok(admin::move_user(&json)),
+        Verb::SetEnabled => Ok(admin::set_enabled(&json)),
+        Verb::AddTeam => Ok(admin::add_team(&json)),
+        Verb::AddMember => Ok(admin::add_member(&json)),
+        Verb::RemoveMember => Ok(admin::remove_member(&json)),
+        Verb::AddRole => admin::add_role(alloc, json),
+        Verb::SetPrivileges => admin::set_privileges(alloc, json),
+        Verb::GiveRole => Ok(admin::give_role(&json)),
+        Verb::TakeRole => Ok(admin::take_role(&json)),
     }
 }
 
 // Several requests, each with a reply of its own.
 #[cycle(requests)]
 fn multiple(alloc: Global, json: Json) -> Result<Request, AllocError>
-    ensures { IfOk result (λ request. request ≡ say.request_for Verb.Multiple (view json) (map say.request_of (items_under (codes "requests") (view json)))) }
+    ensures { IfOk result (λ request. request
+        ≡ say.request_for Verb.Multiple (view json) (say.requests_at (view json))) }
 {
+    let continue_ = flag_at(&json, "continue");
     let mut members = members_of(alloc, json);
     Ok(Request::Multiple {
         requests: requests_in(alloc, &mut members)?,
-        continue_: take_at(alloc, &mut members, "continue")?,
+        continue_,
     })
 }
 
 // Several requests, of which all are done or none.
 #[cycle(requests)]
 fn transaction(alloc: Global, json: Json) -> Result<Request, AllocError>
-    ensures { IfOk result (λ request. request ≡ say.request_for Verb.Transaction (view json) (map say.request_of (items_under (codes "requests") (view json)))) }
+    ensures { IfOk result (λ request. request
+        ≡ say.request_for Verb.Transaction (view json) (say.requests_at (view json))) }
 {
     let mut members = members_of(alloc, json);
     Ok(Request::Transaction {
@@ -100,8 +105,10 @@ fn transaction(alloc: Global, json: Json) -> Result<Request, AllocError>
 // The requests in a batch.
 #[cycle(requests)]
 fn requests_in(alloc: Global, members: &mut Map<String, Json>) -> Result<Items<Request>, AllocError>
-    ensures value { IfOk result (λ requests. requests ≡ map say.request_of (unwrap_or (list_in (codes "requests") (members_view members.old.entries)) [])) }
-    ensures rest { members_view members.new.entries ≡ without (codes "requests") (members_view members.old.entries) }
+    ensures value { IfOk result (λ requests. requests
+        ≡ map say.request_of (items_in (codes "requests") (members_view members.old.entries))) }
+    ensures rest { members_view members.new.entries
+        ≡ without (codes "requests") (members_view members.old.entries) }
 {
     match take_list(members, "requests") {
         Some(items) => Ok(requests_of(alloc, items)?),

@@ -13,15 +13,15 @@ use Rattle.dv_wire.proofs.querying.+filters.Goals as goal
 pub filter_of-filters_in-requires : goal.filter_of-filters_in-requires
 filter_of-filters_in-requires t c =
     let d = view c.args.json in
-    let below : members_depth (members_view c.members_of-members.result.entries) ≤ depth d = rw c.members_of-members.ensures (members_below d) in
+    let below : members_depth (members_view c.members_of-members.result.entries) ≤ depth d = rw c.members_of-members.ensures.members (members_below d) in
     (omega (arith, c.decreases, below), tt)
 
 pub filter_of-returns : goal.filter_of-returns
 filter_of-returns t c =
     let d = view c.args.json in
-    let l0 = all_left _ d c.members_of-members.ensures in
+    let l0 = all_left _ d c.members_of-members.ensures.members in
     let l1 = one_less _ _ d (codes "filters") [] l0 c.in_ok-filters.ensures.rest in
-    filter_made d _ _ _ (c.says_at.ensures ∙ ap (λ o. bytes_eq (unwrap_or (as_str (unwrap_or o null)) []) (codes "or")) (l1 (codes "op") refl))
+    filter_made d _ _ _ c.says_word-any.ensures
     (c.in_ok-conditions_of.ensures ∙ ap (map condition_of) (c.take_items.ensures.value ∙ list_left _ d (codes "filters" ∷ []) (codes "conditions") l1 refl))
     (c.in_ok-filters.ensures.value ∙ ap (map filter_of) (list_left _ d [] (codes "filters") l0 refl))
 

@@ -4,7 +4,7 @@ use Rattle.serde_json.specs.Find.{as_str}
 use Rattle.serde_json.specs.View.{view, members_view}
 use Rattle.dv_form.specs.Members.{text_of}
 use Rattle.dv_form.proofs.Reading.{all_left, one_less}
-use Rattle.dv_schema.specs.Reading.{names_of}
+use Rattle.dv_form.specs.Members.{names_of}
 use Rattle.dv_query.specs.Words.{join_of}
 use Rattle.dv_query.specs.declared.link.Join.TheVariants.{Inner}
 use Rattle.dv_wire.specs.Queries.{filter_of, filter_at, join_at, link_of}
@@ -16,14 +16,14 @@ use Rattle.dv_wire.proofs.querying.+links.Goals as goal
 pub link_of-links_under-requires : goal.link_of-links_under-requires
 link_of-links_under-requires t c =
     let d = view c.args.json in
-    let below : members_depth (members_view c.members_of-members.result.entries) ≤ depth d = rw c.members_of-members.ensures (members_below d) in
+    let below : members_depth (members_view c.members_of-members.result.entries) ≤ depth d = rw c.members_of-members.ensures.members (members_below d) in
     (omega (arith, c.decreases, below), tt)
 
 pub link_of-returns : goal.link_of-returns
-unfolding join_at filter_at
+unfolding filter_at
 link_of-returns t c =
     let d = view c.args.json in
-    let l0 = all_left _ d c.members_of-members.ensures in
+    let l0 = all_left _ d c.members_of-members.ensures.members in
     let l1 = one_less _ _ d (codes "links") [] l0 c.in_ok-links.ensures.rest in
     let l2 = one_less _ _ d (codes "table") (codes "links" ∷ []) l1 c.in_ok-take_at.ensures.rest in
     let l3 = one_less _ _ d (codes "from") (codes "table" ∷ codes "links" ∷ []) l2 c.in_ok-take_at-2.ensures.rest in
@@ -33,7 +33,7 @@ link_of-returns t c =
     link_made d _ _ _ _ _ _ _ _ (c.in_ok-take_at.ensures.value ∙ ap (λ o. text_of (unwrap_or o null)) (l1 (codes "table") refl))
     (c.in_ok-take_at-2.ensures.value ∙ ap (λ o. text_of (unwrap_or o null)) (l2 (codes "from") refl))
     (c.in_ok-take_at-3.ensures.value ∙ ap (λ o. text_of (unwrap_or o null)) (l3 (codes "to") refl))
-    (c.join_at.ensures ∙ ap (λ o. unwrap_or (option_and_then join_of (option_and_then as_str o)) Inner) (l4 (codes "join") refl))
+    c.join_at-join.ensures
     (c.in_ok-take_given.ensures.value ∙ ap (option_map text_of) (l4 (codes "alias") refl))
     (c.in_ok-take_at-4.ensures.value ∙ ap (λ o. names_of (unwrap_or o null)) (l5 (codes "columns") refl))
     (c.in_ok-filter_at.ensures.value ∙ ap (option_map filter_of) (l6 (codes "filter") refl))

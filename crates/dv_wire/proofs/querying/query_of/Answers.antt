@@ -3,7 +3,7 @@ use Rattle.serde_json.specs.Data.{null}
 use Rattle.serde_json.specs.View.{view}
 use Rattle.dv_form.specs.Members.{text_of}
 use Rattle.dv_form.proofs.Reading.{all_left, one_less}
-use Rattle.dv_schema.specs.Reading.{names_of}
+use Rattle.dv_form.specs.Members.{names_of}
 use Rattle.dv_wire.specs.Queries.{filter_of, filter_at, link_of, order_of, query_of}
 use Rattle.dv_wire.proofs.Lists.{list_left}
 use Rattle.dv_wire.proofs.QueryLaws.{part_same}
@@ -13,7 +13,7 @@ pub returns : goal.returns
 unfolding query_of filter_at
 returns c =
     let d = view c.args.json in
-    let l0 = all_left _ d c.members_of-members.ensures in
+    let l0 = all_left _ d c.members_of-members.ensures.members in
     let l1 = one_less _ _ d (codes "table") [] l0 c.in_ok-take_at.ensures.rest in
     let l2 = one_less _ _ d (codes "columns") (codes "table" ∷ []) l1 c.in_ok-take_given.ensures.rest in
     let l3 = one_less _ _ d (codes "filter") (codes "columns" ∷ codes "table" ∷ []) l2 c.in_ok-filter_at.ensures.rest in

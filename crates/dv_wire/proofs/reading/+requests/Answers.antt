@@ -15,31 +15,29 @@ request_of-returns t c = request_made (view c.args.json) _ _ _ c.in_ok-request_f
 pub multiple-requests_in-requires : goal.multiple-requests_in-requires
 multiple-requests_in-requires t c =
     let d = view c.args.json in
-    let below : members_depth (members_view c.members_of-members.result.entries) ≤ depth d = rw c.members_of-members.ensures (members_below d) in
+    let below : members_depth (members_view c.members_of-members.result.entries) ≤ depth d = rw c.members_of-members.ensures.members (members_below d) in
     (omega (arith, c.decreases, below), tt)
 
 pub multiple-returns : goal.multiple-returns
 unfolding request_for
 multiple-returns t c =
     let d = view c.args.json in
-    let l0 = all_left _ d c.members_of-members.ensures in
-    let l1 = one_less _ _ d (codes "requests") [] l0 c.in_ok-requests_in.ensures.rest in
     rw (
-      c.in_ok-requests_in.ensures.value ∙ ap (map request_of) (list_left _ d [] (codes "requests") l0 refl),
-      c.in_ok-take_at.ensures.value ∙ ap (λ o. flag_of (unwrap_or o null)) (l1 (codes "continue") refl),
+      c.in_ok-requests_in.ensures.value ∙ ap (map request_of) (list_left _ d [] (codes "requests") (all_left _ d c.members_of-members.ensures.members) refl),
+      c.flag_at-continue_.ensures,
     ) refl
 
 pub transaction-requests_in-requires : goal.transaction-requests_in-requires
 transaction-requests_in-requires t c =
     let d = view c.args.json in
-    let below : members_depth (members_view c.members_of-members.result.entries) ≤ depth d = rw c.members_of-members.ensures (members_below d) in
+    let below : members_depth (members_view c.members_of-members.result.entries) ≤ depth d = rw c.members_of-members.ensures.members (members_below d) in
     (omega (arith, c.decreases, below), tt)
 
 pub transaction-returns : goal.transaction-returns
 unfolding request_for
 transaction-returns t c =
     let d = view c.args.json in
-    rw (c.in_ok-requests_in.ensures.value ∙ ap (map request_of) (list_left _ d [] (codes "requests") (all_left _ d c.members_of-members.ensures) refl)) refl
+    rw (c.in_ok-requests_in.ensures.value ∙ ap (map request_of) (list_left _ d [] (codes "requests") (all_left _ d c.members_of-members.ensures.members) refl)) refl
 
 pub requests_in-requests_of-requires : goal.requests_in-requests_of-requires
 requests_in-requests_of-requires t c = (omega (arith, c.decreases, list_below (codes "requests") (members_view c.args.members.now.entries) (map view c.in-Some.items.items) (sym c.in-Some.ensures.value)), tt)
