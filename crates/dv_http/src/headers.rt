@@ -25,8 +25,10 @@ fn is_same_word(a: &[u8], b: &[u8]) -> bool
 // The first header of that name.
 fn find<'b, 'h>(bytes: &'b [u8], headers: &'h [HeaderSpan], name: &[u8]) -> Option<Found<'b, 'h>>
     requires { All (IsHeaderWithin (length bytes.now)) headers.now }
-    ensures within { IfSome result (λ found. All (IsHeaderWithin (length bytes.now)) found.rest.now) }
-    ensures value { let values = λ (some : List HeaderSpan). values_of name.now (map (header_bytes bytes.now) some) in
+    ensures within { IfSome result
+        (λ found. All (IsHeaderWithin (length bytes.now)) found.rest.now) }
+    ensures value { let values = λ (some : List HeaderSpan).
+        values_of name.now (map (header_bytes bytes.now) some) in
         MatchOption result (values headers.now ≡ [])
         (λ found. values headers.now ≡ found.value.now ∷ values found.rest.now) }
     ensures shorter { IfSome result (λ found. length found.rest.now < length headers.now) }

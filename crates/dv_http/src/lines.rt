@@ -42,7 +42,8 @@ fn are_empty_lines(bytes: &[u8]) -> bool
 
 // The bytes after the empty line that they begin with.
 fn after_empty_line(bytes: &[u8]) -> Option<&[u8]>
-    ensures begins { MatchOption result ((end : LineEnd) (after : List ℕ) → bytes.now ≢ print_end end ++ after)
+    ensures begins { MatchOption result ((end : LineEnd) (after : List ℕ)
+        → bytes.now ≢ print_end end ++ after)
         (λ rest. (end : LineEnd) × (bytes.now ≡ print_end end ++ rest.now)) }
     ensures shorter { IfSome result (λ rest. length rest.now < length bytes.now) }
 {

@@ -46,7 +46,8 @@ fn read_head(bytes: &[u8], headers: &mut [HeaderSpan]) -> Option<RequestSpans>
     requires { length headers.old ≡ MAX_HEADERS }
     ensures none { IfNone result (HasNoHead bytes.now) }
     ensures count { IfSome result (λ spans. spans.headers ≤ MAX_HEADERS) }
-    ensures within { IfSome result (λ spans. AreWithin bytes.now (take spans.headers headers.new) spans) }
+    ensures within { IfSome result
+        (λ spans. AreWithin bytes.now (take spans.headers headers.new) spans) }
     ensures covers { IfSome result (λ spans. (head : RequestHead)
         × CoverHead bytes.now (take spans.headers headers.new) spans head) }
 {
@@ -79,7 +80,8 @@ fn with_body(
 ) -> Result<Heard, AllocError>
     requires within { AreWithin bytes.now headers.now head.now }
     requires fits { head.now.len + length after.now < 2 ^ 64 }
-    ensures { IfOk result (λ heard. (read : RequestHead) → CoverHead bytes.now headers.now head.now read
+    ensures { IfOk result (λ heard. (read : RequestHead)
+        → CoverHead bytes.now headers.now head.now read
         → IsHeardAfter read after.now heard) }
 {
     let Some(body) = body_len(bytes, headers) else {
@@ -104,7 +106,8 @@ fn copy_message(
     body: &[u8],
 ) -> Result<HttpMessage, AllocError>
     requires { AreWithin bytes.now headers.now head.now }
-    ensures { IfOk result (λ message. (read : RequestHead) → CoverHead bytes.now headers.now head.now read
+    ensures { IfOk result (λ message. (read : RequestHead)
+        → CoverHead bytes.now headers.now head.now read
         → message ≡ message_of read body.now) }
 {
     let method = Bytes::from_slice(alloc, head.method.of(bytes))?;
@@ -127,7 +130,8 @@ fn copy_caller(
     headers: &[HeaderSpan],
 ) -> Result<Option<Bytes>, AllocError>
     requires { All (IsHeaderWithin (length bytes.now)) headers.now }
-    ensures { IfOk result (λ caller. caller ≡ caller_of (map (header_bytes bytes.now) headers.now)) }
+    ensures { IfOk result (λ caller. caller
+        ≡ caller_of (map (header_bytes bytes.now) headers.now)) }
 {
     match caller(bytes, headers) {
         Some(value) => Ok(Some(Bytes::from_slice(alloc, value)?)),

@@ -21,7 +21,8 @@ impl Units {
 
     /// The first user past an id with its unit and whether it is enabled, or the first of all.
     pub fn user_after(&self, after: Option<Id>) -> Option<(Id, Id, bool)>
-        ensures next { result ≡ option_map (λ e. (e.0, e.1.unit, e.1.enabled)) (next_entry after self.now.users) }
+        ensures next { result
+            ≡ option_map (λ e. (e.0, e.1.unit, e.1.enabled)) (next_entry after self.now.users) }
         ensures ascends { Ascends self.now.users }
     {
         match lists::next_entry(&self.users, after) {
@@ -33,7 +34,8 @@ impl Units {
     /// The first further team past an id with its unit and whether it is an access team, or the first of all. Default
     /// teams aren't listed.
     pub fn listed_team_after(&self, after: Option<Id>) -> Option<(Id, Id, bool)>
-        ensures next { result ≡ option_map (λ e. (e.0, e.1.unit, e.1.access)) (next_entry after self.now.teams) }
+        ensures next { result
+            ≡ option_map (λ e. (e.0, e.1.unit, e.1.access)) (next_entry after self.now.teams) }
         ensures ascends { Ascends self.now.teams }
     {
         match lists::next_entry(&self.teams, after) {

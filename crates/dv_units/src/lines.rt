@@ -19,7 +19,8 @@ fn parent_of(units: &BTreeMap<Id, Id>, unit: Id) -> Id
 
 /// Whether a unit is another one, or stands below it over at most as many levels as there are units.
 fn is_in_line(units: &BTreeMap<Id, Id>, unit: Id, above: Id) -> bool
-    ensures { result ≡ list_any (λ id. above.0 == id.0) (line (length units.now.entries) units.now.entries unit) }
+    ensures { result ≡ list_any (λ id. above.0 == id.0)
+        (line (length units.now.entries) units.now.entries unit) }
 {
     let mut at = unit;
     for level in 0..units.len() {

@@ -13,8 +13,10 @@ use std::ops::Bound;
 /// Puts an entry at an id.
 pub(crate) fn put<V: Drop>(list: &mut BTreeMap<Id, V>, id: Id, value: V) -> Result<(), AllocError>
     ensures ok { OnOk result (list.new.entries ≡ put list.old.entries id value) }
-    ensures gets { OnOk result ((q : Id) → at list.new.entries q ≡ (if id.0 == q.0 then Some value else at list.old.entries q)) }
-    ensures len { OnOk result (length list.new.entries ≡ length list.old.entries + (if is_some (at list.old.entries id) then 0 else 1)) }
+    ensures gets { OnOk result ((q : Id)
+        → at list.new.entries q ≡ (if id.0 == q.0 then Some value else at list.old.entries q)) }
+    ensures len { OnOk result (length list.new.entries
+        ≡ length list.old.entries + (if is_some (at list.old.entries id) then 0 else 1)) }
     ensures err { OnErr result (list.new.entries ≡ list.old.entries) }
 {
     list.insert(id, value)?;
@@ -30,8 +32,12 @@ pub(crate) fn add_pair(
 ) -> Result<(), AllocError>
     requires { has pairs.old.keys (first, second) ≡ false }
     ensures ok { OnOk result (pairs.new.keys ≡ with_pair pairs.old.keys (first, second)) }
-    ensures has { OnOk result ((q : Id × Id) → has pairs.new.keys q ≡ (if is_at (pair_cmp (first, second)) q then true else has pairs.old.keys q)) }
-    ensures turned { OnOk result ((q : Id × Id) → has turned.new.keys q ≡ (if is_at (pair_cmp (second, first)) q then true else has turned.old.keys q)) }
+    ensures has { OnOk result ((q : Id × Id)
+        → has pairs.new.keys q
+        ≡ (if is_at (pair_cmp (first, second)) q then true else has pairs.old.keys q)) }
+    ensures turned { OnOk result ((q : Id × Id)
+        → has turned.new.keys q
+        ≡ (if is_at (pair_cmp (second, first)) q then true else has turned.old.keys q)) }
     ensures len { OnOk result (length pairs.new.keys ≡ length pairs.old.keys + 1) }
     ensures err { OnErr result (pairs.new.keys ≡ pairs.old.keys) }
     ensures err_turned { OnErr result (turned.new.keys ≡ turned.old.keys) }
@@ -54,8 +60,12 @@ pub(crate) fn take_pair(
     second: Id,
 )
     ensures pairs { pairs.new.keys ≡ without_pair pairs.old.keys (first, second) }
-    ensures has { (q : Id × Id) → has pairs.new.keys q ≡ (if is_at (pair_cmp (first, second)) q then false else has pairs.old.keys q) }
-    ensures turned { (q : Id × Id) → has turned.new.keys q ≡ (if is_at (pair_cmp (second, first)) q then false else has turned.old.keys q) }
+    ensures has { (q : Id × Id)
+        → has pairs.new.keys q
+        ≡ (if is_at (pair_cmp (first, second)) q then false else has pairs.old.keys q) }
+    ensures turned { (q : Id × Id)
+        → has turned.new.keys q
+        ≡ (if is_at (pair_cmp (second, first)) q then false else has turned.old.keys q) }
     ensures len { length pairs.new.keys ≤ length pairs.old.keys }
 {
     pairs.remove(&(first, second));
@@ -74,7 +84,8 @@ fn past<K: Copy>(after: Option<K>) -> Bound<K>
 
 /// The first entry past an id.
 pub(crate) fn next_entry<V>(list: &BTreeMap<Id, V>, after: Option<Id>) -> Option<(&Id, &V)>
-    ensures entry { option_map (λ e. (e.0.now, e.1.now)) result ≡ next_entry after list.now.entries }
+    ensures entry { option_map (λ e. (e.0.now, e.1.now)) result
+        ≡ next_entry after list.now.entries }
     ensures ascends { Ascends list.now.entries }
 {
     list.range((past(after), Bound::Unbounded)).next()

@@ -51,7 +51,8 @@ pub(crate) fn write<K: Ord + Copy, V: Drop>(
     place: Option<V>,
     kept: bool,
 ) -> Result<(), AllocFailed<(K, Option<V>)>>
-    ensures places { OnOk result (places.new.entries ≡ with_value K.cmp key place places.old.entries) }
+    ensures places { OnOk result (places.new.entries
+        ≡ with_value K.cmp key place places.old.entries) }
     ensures journal { OnOk result (journal.new.items ≡ journal.old.items ++ record {
       key = key;
       found = value_at K.cmp key places.old.entries;
