@@ -1,4 +1,4 @@
-// Each scenario says what the shelf holds after each step, as a text with its entries in order.
+//! Scenarios worked by hand: what a shelf holds after each of their steps.
 mod failing;
 
 use dv_work::Shelf;
@@ -6,158 +6,217 @@ use std::alloc::{AllocError, Global};
 use std::process::Abort;
 use std::test::Fail;
 
-// More entries than any scenario has.
-const MANY: usize = 100;
+// How many entries are put where memory is ample.
+const MANY: u64 = 100;
 
-// The entries of a shelf, as in "1=10 3=30".
-fn listed(alloc: Global, shelf: &Shelf<u64, u64>) -> Result<String, AllocError> {
-    let mut text = String::new(alloc);
-    let mut after = None;
-    for _ in 0..MANY {
-        let Some((key, value)) = shelf.next_after(after.as_ref()) else {
-            break;
-        };
-        let gap = if after.is_some() { " " } else { "" };
-        text.push_str(format!(in alloc; "{gap}{key}={value}")?.as_str())?;
-        after = Some(*key);
-    }
-    Ok(text)
+// One step of a scenario.
+enum Step {
+    // A key gets a value, and the state before is kept.
+    Put(u64, u64),
+    // A key gets a value in the state that is there.
+    AmendPut(u64, u64),
+    // A key that is there is taken, and the state before is kept.
+    Take(u64),
+    // A key that isn't there is taken: nothing changes.
+    TakeMissing(u64),
+    // A key that is there is taken from the state that is there.
+    AmendTake(u64),
+    // The same of a key that isn't there: nothing changes.
+    AmendTakeMissing(u64),
+    // All is as it was at a mark.
+    UndoTo(usize),
+    // The earlier states are dropped.
+    Forget,
+    // So many earlier states are kept.
+    Keeps(usize),
+    // The shelf holds these entries, in order.
+    Holds(&'static [(u64, u64)]),
+    // The keys touched since a mark, with what each had.
+    Touched(usize, &'static [(u64, Option<u64>)]),
 }
 
-fn assert_holds(
-    rt: &impl Abort,
-    alloc: Global,
+use Step::{
+    AmendPut, AmendTake, AmendTakeMissing, Forget, Holds, Keeps, Put, Take, TakeMissing, Touched,
+    UndoTo,
+};
+
+const A_PUT_OVER_A_TAKEN_KEY: [Step; 11] = [
+    Put(1, 10),
+    Put(2, 20),
+    Take(1),
+    Keeps(3),
+    Put(1, 11),
+    Holds(&[(1, 11), (2, 20)]),
+    UndoTo(3),
+    Holds(&[(2, 20)]),
+    Put(1, 12),
+    Forget,
+    Holds(&[(1, 12), (2, 20)]),
+];
+
+const A_TAKE_OF_A_MISSING_KEY: [Step; 7] = [
+    Put(2, 20),
+    TakeMissing(1),
+    Keeps(1),
+    Take(2),
+    TakeMissing(2),
+    Keeps(2),
+    Holds(&[]),
+];
+
+const MARKS_IN_MARKS: [Step; 15] = [
+    Put(1, 10),
+    Keeps(1),
+    Put(2, 20),
+    Keeps(2),
+    Take(1),
+    Put(2, 21),
+    UndoTo(2),
+    Holds(&[(1, 10), (2, 20)]),
+    Put(3, 30),
+    UndoTo(2),
+    Holds(&[(1, 10), (2, 20)]),
+    UndoTo(1),
+    Holds(&[(1, 10)]),
+    UndoTo(0),
+    Holds(&[]),
+];
+
+const A_ROW_AND_ITS_INDEX_ENTRIES: [Step; 11] = [
+    Put(1, 10),
+    AmendPut(110, 0),
+    Keeps(1),
+    Put(1, 11),
+    AmendTake(110),
+    AmendTakeMissing(110),
+    AmendPut(111, 0),
+    Keeps(2),
+    Holds(&[(1, 11), (111, 0)]),
+    UndoTo(1),
+    Holds(&[(1, 10), (110, 0)]),
+];
+
+const TOUCHED_KEYS: [Step; 9] = [
+    Put(1, 10),
+    Put(2, 20),
+    Keeps(2),
+    Put(3, 30),
+    Put(2, 21),
+    Put(2, 22),
+    Take(3),
+    Touched(2, &[(2, Some(20)), (3, None)]),
+    Touched(6, &[]),
+];
+
+// Whether a shelf has exactly these entries, in order.
+fn holds(shelf: &Shelf<u64, u64>, entries: &[(u64, u64)]) -> bool {
+    let mut after = None;
+    for (key, value) in entries {
+        if shelf.next_after(after) != Some((key, value)) {
+            return false;
+        }
+        after = Some(key);
+    }
+    shelf.next_after(after).is_none()
+}
+
+// Whether exactly these keys were touched since a mark, each once, with what it had.
+fn touched(
     shelf: &Shelf<u64, u64>,
-    want: &str,
-) -> Result<(), Fail> {
-    let got = listed(alloc, shelf)?;
-    assert_eq!(rt; got.as_str(), want);
+    mark: usize,
+    wanted: &[(u64, Option<u64>)],
+) -> Result<bool, AllocError> {
+    if mark > shelf.mark() {
+        return Ok(false);
+    }
+    let touched = shelf.touched_since(mark)?;
+    for (key, before) in wanted {
+        let Some(had) = touched.get(key) else {
+            return Ok(false);
+        };
+        if had.copied() != *before {
+            return Ok(false);
+        }
+    }
+    Ok(touched.len() == wanted.len())
+}
+
+// Takes a step, and tells whether it went as the scenario says.
+fn goes(shelf: &mut Shelf<u64, u64>, step: &Step) -> Result<bool, AllocError> {
+    Ok(match *step {
+        Put(key, value) => shelf.put(key, value).is_ok(),
+        AmendPut(key, value) => shelf.amend_put(key, value).is_ok(),
+        Take(key) => shelf.take(&key)?,
+        TakeMissing(key) => !shelf.take(&key)?,
+        AmendTake(key) => shelf.amend_take(&key)?,
+        AmendTakeMissing(key) => !shelf.amend_take(&key)?,
+        UndoTo(mark) => {
+            let is_kept = mark <= shelf.mark();
+            if is_kept {
+                shelf.undo_to(mark);
+            }
+            is_kept
+        }
+        Forget => {
+            shelf.forget();
+            true
+        }
+        Keeps(mark) => shelf.mark() == mark,
+        Holds(entries) => holds(shelf, entries),
+        Touched(mark, wanted) => touched(shelf, mark, wanted)?,
+    })
+}
+
+fn assert_goes(rt: &impl Abort, alloc: Global, name: &str, steps: &[Step]) -> Result<(), Fail> {
+    let mut shelf = Shelf::new(alloc);
+    for (number, step) in steps.iter().enumerate() {
+        let went = goes(&mut shelf, step)?;
+        assert!(rt; went, "{name}: step {number}");
+    }
     Ok(())
 }
 
-fn put(shelf: &mut Shelf<u64, u64>, key: u64, value: u64) -> Result<(), AllocError> {
-    match shelf.put(key, value) {
-        Ok(()) => Ok(()),
-        Err((_, _, error)) => Err(error),
-    }
-}
-
-fn amend_put(shelf: &mut Shelf<u64, u64>, key: u64, value: u64) -> Result<(), AllocError> {
-    match shelf.amend_put(key, value) {
-        Ok(()) => Ok(()),
-        Err((_, _, error)) => Err(error),
-    }
-}
-
-fn undo_to(rt: &impl Abort, shelf: &mut Shelf<u64, u64>, mark: usize) {
-    assert!(rt; mark <= shelf.mark());
-    shelf.undo_to(mark);
+#[test]
+fn scenarios_go_as_worked_by_hand(rt: HostRuntime) -> Result<(), Fail> {
+    let alloc = rt.alloc();
+    assert_goes(
+        &rt,
+        alloc,
+        "a put over a taken key is undone",
+        &A_PUT_OVER_A_TAKEN_KEY,
+    )?;
+    assert_goes(
+        &rt,
+        alloc,
+        "a take of a missing key adds no state",
+        &A_TAKE_OF_A_MISSING_KEY,
+    )?;
+    assert_goes(&rt, alloc, "marks stand in marks", &MARKS_IN_MARKS)?;
+    assert_goes(
+        &rt,
+        alloc,
+        "a row and its index entries are one state",
+        &A_ROW_AND_ITS_INDEX_ENTRIES,
+    )?;
+    assert_goes(&rt, alloc, "each touched key is told once", &TOUCHED_KEYS)
 }
 
 #[test]
 fn puts_and_takes_succeed_with_ample_memory(rt: HostRuntime) -> Result<(), Fail> {
-    let alloc = rt.alloc();
-    let mut shelf = Shelf::new(alloc);
-    for number in 0..MANY {
-        let key = u64::try_from(MANY - number)?;
-        put(&mut shelf, key, key.wrapping_mul(2))?;
+    let mut shelf = Shelf::new(rt.alloc());
+    for key in 0..MANY {
+        let is_put = shelf.put(MANY - key, key).is_ok();
+        assert!(rt; is_put);
     }
-    assert_eq!(rt; shelf.mark(), MANY);
-    assert_eq!(rt; shelf.get(&7), Some(&14));
-    for key in 3..=u64::try_from(MANY)? {
-        assert!(rt; shelf.take(&key)?);
+    assert_eq!(rt; shelf.get(&7), Some(&93));
+    for key in 3..=MANY {
+        let is_taken = shelf.take(&key)?;
+        assert!(rt; is_taken);
     }
-    assert_eq!(rt; shelf.get(&7), None);
-    assert_holds(&rt, alloc, &shelf, "1=2 2=4")?;
+    assert_eq!(rt; shelf.mark(), 198);
+    assert!(rt; holds(&shelf, &[(1, 99), (2, 98)]));
     shelf.forget();
     assert_eq!(rt; shelf.mark(), 0);
-    assert_holds(&rt, alloc, &shelf, "1=2 2=4")
-}
-
-#[test]
-fn a_put_over_a_taken_key_is_undone(rt: HostRuntime) -> Result<(), Fail> {
-    let alloc = rt.alloc();
-    let mut shelf = Shelf::new(alloc);
-    put(&mut shelf, 1, 10)?;
-    put(&mut shelf, 2, 20)?;
-    assert!(rt; shelf.take(&1)?);
-    let taken = shelf.mark();
-    put(&mut shelf, 1, 11)?;
-    assert_holds(&rt, alloc, &shelf, "1=11 2=20")?;
-    undo_to(&rt, &mut shelf, taken);
-    assert_holds(&rt, alloc, &shelf, "2=20")?;
-    put(&mut shelf, 1, 12)?;
-    shelf.forget();
-    assert_holds(&rt, alloc, &shelf, "1=12 2=20")
-}
-
-#[test]
-fn a_take_of_a_missing_key_adds_no_state(rt: HostRuntime) -> Result<(), Fail> {
-    let alloc = rt.alloc();
-    let mut shelf = Shelf::new(alloc);
-    put(&mut shelf, 2, 20)?;
-    assert!(rt; !shelf.take(&1)?);
-    assert_eq!(rt; shelf.mark(), 1);
-    assert!(rt; shelf.take(&2)?);
-    assert!(rt; !shelf.take(&2)?);
-    assert_eq!(rt; shelf.mark(), 2);
-    assert_holds(&rt, alloc, &shelf, "")
-}
-
-#[test]
-fn marks_stand_in_marks(rt: HostRuntime) -> Result<(), Fail> {
-    let alloc = rt.alloc();
-    let mut shelf = Shelf::new(alloc);
-    put(&mut shelf, 1, 10)?;
-    let outer = shelf.mark();
-    put(&mut shelf, 2, 20)?;
-    let inner = shelf.mark();
-    assert!(rt; shelf.take(&1)?);
-    put(&mut shelf, 2, 21)?;
-    undo_to(&rt, &mut shelf, inner);
-    assert_holds(&rt, alloc, &shelf, "1=10 2=20")?;
-    put(&mut shelf, 3, 30)?;
-    undo_to(&rt, &mut shelf, inner);
-    assert_holds(&rt, alloc, &shelf, "1=10 2=20")?;
-    undo_to(&rt, &mut shelf, outer);
-    assert_holds(&rt, alloc, &shelf, "1=10")?;
-    undo_to(&rt, &mut shelf, 0);
-    assert_holds(&rt, alloc, &shelf, "")
-}
-
-#[test]
-fn a_row_and_its_index_entries_are_one_state(rt: HostRuntime) -> Result<(), Fail> {
-    let alloc = rt.alloc();
-    let mut shelf = Shelf::new(alloc);
-    put(&mut shelf, 1, 10)?;
-    amend_put(&mut shelf, 110, 0)?;
-    let start = shelf.mark();
-    put(&mut shelf, 1, 11)?;
-    assert!(rt; shelf.amend_take(&110)?);
-    assert!(rt; !shelf.amend_take(&110)?);
-    amend_put(&mut shelf, 111, 0)?;
-    assert_eq!(rt; shelf.mark(), 2);
-    assert_holds(&rt, alloc, &shelf, "1=11 111=0")?;
-    undo_to(&rt, &mut shelf, start);
-    assert_holds(&rt, alloc, &shelf, "1=10 110=0")
-}
-
-#[test]
-fn each_touched_key_is_told_once_with_what_it_had(rt: HostRuntime) -> Result<(), Fail> {
-    let alloc = rt.alloc();
-    let mut shelf = Shelf::new(alloc);
-    put(&mut shelf, 1, 10)?;
-    put(&mut shelf, 2, 20)?;
-    let start = shelf.mark();
-    put(&mut shelf, 3, 30)?;
-    put(&mut shelf, 2, 21)?;
-    put(&mut shelf, 2, 22)?;
-    assert!(rt; shelf.take(&3)?);
-    let mut told = String::new(alloc);
-    for (key, before) in &shelf.touched_since(start)? {
-        told.push_str(format!(in alloc; "{key}:{before:?} ")?.as_str())?;
-    }
-    assert_eq!(rt; told.as_str(), "2:Some(20) 3:None ");
-    assert!(rt; shelf.touched_since(shelf.mark())?.is_empty());
+    assert!(rt; holds(&shelf, &[(1, 99), (2, 98)]));
     Ok(())
 }

@@ -1,4 +1,4 @@
-// What the library's calls ask of a kind and of a value: a case that passes these limits is told, and not run.
+//! What the library's calls ask of a kind and of a value: a case that passes these limits is told, and not run.
 ghost use Rattle.std.specs.Prelude.{IsTrue};
 ghost use Rattle.dv_value.specs.Spelling.{HasSpelling};
 ghost use Rattle.dv_value.specs.Typing.{HasScale, IsOfKind};

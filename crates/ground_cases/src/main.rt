@@ -1,61 +1,33 @@
-//! Runs the files of cases that it is given through dv_value, and tells each case whose answer isn't the one beside it.
+//! Runs the cases of values and of HTTP messages in data/, and tells how many there are and which of them differ.
 #![tactic(auto)]
 
-mod case;
+mod http;
+mod kind;
 mod limits;
+mod made_up;
 mod notation;
 mod numbers;
 mod values;
 
-use anyhow::{Context, Result};
-use case::{Case, came};
-use std::alloc::Global;
-use std::{env, fs};
+use case_notation::{Fault, Tally, run};
+use kind::Kind;
 
-// How many cases were run, and how many of them differ.
-#[derive(Drop)]
-struct Tally {
-    cases: u64,
-    differ: u64,
-}
+// The files of cases, and what each has.
+const FILES: [(&str, Kind); 8] = [
+    ("moments.txt", Kind::Value),
+    ("amounts.txt", Kind::Value),
+    ("spellings.txt", Kind::Value),
+    ("order.txt", Kind::Value),
+    ("typing.txt", Kind::Value),
+    ("tokens.txt", Kind::Value),
+    ("http.txt", Kind::Http),
+    ("made_up.txt", Kind::MadeUp),
+];
 
-fn main(rt: HostRuntime) -> Result<()> {
-    let mut tally = Tally {
-        cases: 0,
-        differ: 0,
-    };
-    for file in env::args(&rt)?.skip(1) {
-        run(&rt, file.as_str(), &mut tally)?;
+fn main(rt: HostRuntime) -> Result<(), Fault> {
+    let mut tally = Tally::new();
+    for (file, kind) in FILES {
+        run(&rt, file, &kind, &mut tally)?;
     }
-    println!(rt; "{} cases, {} differ", tally.cases, tally.differ)?;
-    Ok(())
-}
-
-// Runs the cases of a file: each line that isn't empty and no comment.
-fn run(rt: &HostRuntime, file: &str, tally: &mut Tally) -> Result<()> {
-    let text = fs::read_to_string(rt, file).context(format_args!("reading {file}"))?;
-    for (index, line) in text.lines().enumerate() {
-        if line.is_empty() || line.starts_with('#') {
-            continue;
-        }
-        tally.cases = tally.cases.saturating_add(1);
-        if let Some(came) = difference(rt.alloc(), line)? {
-            let number = index.saturating_add(1);
-            tally.differ = tally.differ.saturating_add(1);
-            println!(rt; "{file}:{number}: {line}\n    came: {came}")?;
-        }
-    }
-    Ok(())
-}
-
-// What came of a case in place of its answer. A line that isn't a case differs too.
-fn difference(alloc: Global, line: &str) -> Result<Option<String>> {
-    let Some(case) = Case::read(line) else {
-        return Ok(Some(String::from_str(alloc, "no answer")?));
-    };
-    match came(alloc, &case) {
-        Ok(answer) if answer.as_str() == case.wanted => Ok(None),
-        Ok(answer) => Ok(Some(answer)),
-        Err(error) => Ok(Some(format!(in alloc; "no answer, since {error}")?)),
-    }
+    tally.tell(&rt)
 }

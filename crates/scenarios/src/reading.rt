@@ -1,50 +1,33 @@
 //! Reads a scenario file line by line. Whatever it can't read is an error: no scenario is dropped in silence.
-use crate::notation::{Definitions, push_counted, spelled_out};
-use crate::scenario::{Exchange, Fault, Pieces, Scenario, Trouble};
-use anyhow::{Context, Result, bail, ensure};
+use crate::draft::{Answered, Draft, exchanges_of};
+use crate::including::Definitions;
+use crate::scenario::{Exchange, Failure, Pieces, Scenario, Trouble};
+use case_notation::{Fault, behind_blank, joined};
 use std::alloc::Global;
-
-// What must be answered to a line.
-#[derive(Drop)]
-enum Reply {
-    // It isn't said yet.
-    Open,
-    Nothing,
-    Line(String),
-}
-
-// A line as it stands in the file, and how often it comes: once, or so many times with the count in place of `$`.
-#[derive(Drop)]
-struct Draft {
-    line: usize,
-    times: Option<u64>,
-    input: String,
-    reply: Reply,
-}
+use std::mem;
 
 /// A scenario as far as it was read.
 #[derive(Drop)]
 pub struct Reader {
-    alloc: Global,
-    name: Option<String>,
+    // Empty between two scenarios.
+    name: String,
     line: usize,
     words: Vec<String>,
     pieces: Pieces,
     trouble: Trouble,
     is_unended: bool,
-    times: Option<u64>,
+    times: Option<u32>,
     drafts: Vec<Draft>,
 }
 
 impl Reader {
     /// A reader between two scenarios. `run` is the command line, and pieces are of a few sizes.
-    pub fn new(alloc: Global) -> Result<Self> {
+    pub fn new(alloc: Global) -> Result<Self, Fault> {
         Ok(Reader {
-            alloc,
-            name: None,
+            name: String::new(alloc),
             line: 0,
             words: words_of(alloc, "run")?,
-            pieces: Pieces::Sizes(vec![in alloc; 1, 7, 4_096]?),
+            pieces: Pieces::Sizes(Vec::from_slice(alloc, &[1, 7, 4_096])?),
             trouble: Trouble::Nothing,
             is_unended: false,
             times: None,
@@ -54,135 +37,142 @@ impl Reader {
 
     /// Whether a scenario was begun and has not come to its status.
     pub fn is_open(&self) -> bool {
-        self.name.is_some()
+        !self.name.is_empty()
     }
 
     /// Takes a line, and gives the scenario that ends with it.
     pub fn take(
         &mut self,
+        alloc: Global,
         definitions: &Definitions,
         at: usize,
         line: &str,
-    ) -> Result<Option<Scenario>> {
+    ) -> Result<Option<Scenario>, Fault> {
         if line.is_empty() || line == "#" || line.starts_with("# ") {
             return Ok(None);
         }
         if let Some(name) = line.strip_prefix("scenario ") {
-            let before_ended = !self.is_open();
-            *self = Reader::new(self.alloc)?;
-            self.name = Some(String::from_str(self.alloc, name)?);
-            self.line = at;
-            ensure!(before_ended, "the scenario before has no status");
+            self.begin(alloc, at, name)?;
             return Ok(None);
         }
-        ensure!(self.is_open(), "a line outside a scenario");
-        if let Some(status) = line.strip_prefix("status ") {
-            let status = status.parse::<u8>().context("no status")?;
-            return Ok(Some(self.finish(definitions, status)?));
+        if !self.is_open() {
+            return Err(Fault::Wrong("a line outside a scenario"));
         }
-        self.take_line(at, line)?;
+        if let Some(status) = line.strip_prefix("status ") {
+            let status = status.parse::<u8>()?;
+            return Ok(Some(self.finish(alloc, definitions, status)?));
+        }
+        self.take_line(alloc, at, line)?;
         Ok(None)
     }
 
-    // Takes a line of input, of a reply, or of directions.
-    fn take_line(&mut self, at: usize, line: &str) -> Result<()> {
-        if line == ">" {
-            self.add_input(at, "")
-        } else if let Some(input) = line.strip_prefix("> ") {
-            self.add_input(at, input)
-        } else if let Some(request) = line.strip_prefix('#') {
-            self.add_request(at, request)
-        } else if line == "-" {
-            self.set_reply(Reply::Nothing)
-        } else if let Some(reply) = line.strip_prefix("= ") {
-            self.set_reply(Reply::Line(String::from_str(self.alloc, reply)?))
-        } else if line.starts_with(' ') {
-            self.go_on(line.trim_start())
-        } else {
-            self.direct(line)
+    fn begin(&mut self, alloc: Global, at: usize, name: &str) -> Result<(), Fault> {
+        let was_open = self.is_open();
+        *self = Reader::new(alloc)?;
+        self.name.push_str(name)?;
+        self.line = at;
+        if was_open {
+            return Err(Fault::Wrong("the scenario before has no status"));
         }
+        Ok(())
     }
 
-    fn add_input(&mut self, line: usize, input: &str) -> Result<()> {
-        if let Some(last) = self.drafts.last() {
-            ensure!(
-                !matches!(&last.reply, Reply::Open),
-                "no reply to the line before"
-            );
+    // Takes a line of input, of a reply, or of directions.
+    fn take_line(&mut self, alloc: Global, at: usize, line: &str) -> Result<(), Fault> {
+        if let Some(input) = line.strip_prefix('>') {
+            return self.add_input(alloc, at, behind_blank(input));
         }
-        self.drafts.push(Draft {
-            line,
-            times: self.times,
-            input: String::from_str(self.alloc, input)?,
-            reply: Reply::Open,
-        })?;
+        if let Some(request) = line.strip_prefix('#') {
+            return self.add_request(alloc, at, request);
+        }
+        if line == "-" {
+            return self.set_reply(Answered::Nothing, "");
+        }
+        if let Some(reply) = line.strip_prefix("= ") {
+            return self.set_reply(Answered::Line, reply);
+        }
+        if line.starts_with(' ') {
+            return self.go_on(line.trim_start());
+        }
+        self.direct(alloc, line)
+    }
+
+    fn add_input(&mut self, alloc: Global, line: usize, input: &str) -> Result<(), Fault> {
+        if let Some(last) = self.drafts.last()
+            && let Answered::Open = last.answered
+        {
+            return Err(Fault::Wrong("no reply to the line before"));
+        }
+        let draft = Draft::new(alloc, line, self.times, input)?;
+        self.drafts.push(draft)?;
         self.times = None;
         Ok(())
     }
 
     // Adds `n> {..}`: the request with the caller of id n.
-    fn add_request(&mut self, line: usize, request: &str) -> Result<()> {
-        let (caller, members) = request.split_once("> {").context("no request")?;
-        let input = format!(in self.alloc; "{{\"caller\":\"#{caller}\",{members}")?;
-        self.add_input(line, input.as_str())
+    fn add_request(&mut self, alloc: Global, line: usize, request: &str) -> Result<(), Fault> {
+        let Some((caller, members)) = request.split_once("> {") else {
+            return Err(Fault::Wrong("no request"));
+        };
+        let input = joined(alloc, &["{\"caller\":\"#", caller, "\",", members])?;
+        self.add_input(alloc, line, input.as_str())
     }
 
-    fn set_reply(&mut self, reply: Reply) -> Result<()> {
-        let Some(last) = self.drafts.last_mut() else {
-            bail!("a reply without a line");
-        };
-        ensure!(matches!(&last.reply, Reply::Open), "a second reply");
-        last.reply = reply;
-        Ok(())
+    fn set_reply(&mut self, answered: Answered, reply: &str) -> Result<(), Fault> {
+        match self.drafts.last_mut() {
+            Some(last) => last.answer(answered, reply),
+            None => Err(Fault::Wrong("a reply without a line")),
+        }
     }
 
     // Appends the text to the line or the reply that was taken last.
-    fn go_on(&mut self, text: &str) -> Result<()> {
-        let Some(last) = self.drafts.last_mut() else {
-            bail!("nothing to go on with");
-        };
-        match &mut last.reply {
-            Reply::Open => last.input.push_str(text)?,
-            Reply::Line(reply) => reply.push_str(text)?,
-            Reply::Nothing => bail!("nothing to go on with"),
+    fn go_on(&mut self, text: &str) -> Result<(), Fault> {
+        match self.drafts.last_mut() {
+            Some(last) => last.go_on(text),
+            None => Err(Fault::Wrong("nothing to go on with")),
         }
-        Ok(())
     }
 
     // Takes a line that says how the scenario is run.
-    fn direct(&mut self, line: &str) -> Result<()> {
+    fn direct(&mut self, alloc: Global, line: &str) -> Result<(), Fault> {
         if let Some(words) = line.strip_prefix("words") {
-            self.words = words_of(self.alloc, words)?;
+            self.words = words_of(alloc, words)?;
         } else if let Some(sizes) = line.strip_prefix("pieces ") {
-            self.pieces = pieces_of(self.alloc, sizes)?;
+            self.pieces = pieces_of(alloc, sizes)?;
         } else if let Some(times) = line.strip_prefix("times ") {
-            self.times = Some(times.parse::<u64>().context("no number of times")?);
+            self.times = Some(times.parse::<u32>()?);
         } else if line == "the last line is not ended" {
             self.is_unended = true;
         } else {
-            ensure!(
-                self.trouble == Trouble::Nothing,
-                "a second trouble, or an unknown line"
-            );
-            self.trouble = trouble_of(line)?;
+            self.set_trouble(trouble_of(line)?)?;
         }
         Ok(())
     }
 
-    // The scenario that was read. The reader stands between two scenarios again.
-    fn finish(&mut self, definitions: &Definitions, status: u8) -> Result<Scenario> {
-        let alloc = self.alloc;
-        let read = std::mem::replace(self, Reader::new(alloc)?);
-        let mut exchanges = Vec::new(alloc);
-        for draft in read.drafts.iter() {
-            add_exchanges(alloc, definitions, draft, &mut exchanges)?;
+    fn set_trouble(&mut self, trouble: Trouble) -> Result<(), Fault> {
+        match self.trouble {
+            Trouble::Nothing => {
+                self.trouble = trouble;
+                Ok(())
+            }
+            _ => Err(Fault::Wrong("a second trouble")),
         }
+    }
+
+    // The scenario that was read. The reader stands between two scenarios again.
+    fn finish(
+        &mut self,
+        alloc: Global,
+        definitions: &Definitions,
+        status: u8,
+    ) -> Result<Scenario, Fault> {
+        let read = mem::replace(self, Reader::new(alloc)?);
+        let mut exchanges = exchanges_of(alloc, definitions, read.drafts.as_slice())?;
         if read.is_unended {
-            let last: &mut Exchange = exchanges.last_mut().context("no line that is not ended")?;
-            let _line_feed = last.input.pop();
+            drop_line_feed(exchanges.last_mut())?;
         }
         Ok(Scenario {
-            name: read.name.context("a scenario without a name")?,
+            name: read.name,
             line: read.line,
             words: read.words,
             pieces: read.pieces,
@@ -193,54 +183,18 @@ impl Reader {
     }
 }
 
-// Spells the line and its reply out, as often as it comes.
-fn add_exchanges(
-    alloc: Global,
-    definitions: &Definitions,
-    draft: &Draft,
-    exchanges: &mut Vec<Exchange>,
-) -> Result<()> {
-    for k in 0..draft.times.unwrap_or(1) {
-        let count = if draft.times.is_some() {
-            Some(k.saturating_add(1))
-        } else {
-            None
-        };
-        let reply = match &draft.reply {
-            Reply::Open => bail!("no reply to the last line"),
-            Reply::Nothing => Vec::new(alloc),
-            Reply::Line(text) => line_of(alloc, definitions, text.as_str(), count)?,
-        };
-        exchanges.push(Exchange {
-            line: draft.line,
-            input: line_of(alloc, definitions, draft.input.as_str(), count)?,
-            reply,
-        })?;
-    }
-    Ok(())
-}
-
-// The line that the text stands for, with its line feed.
-fn line_of(
-    alloc: Global,
-    definitions: &Definitions,
-    text: &str,
-    count: Option<u64>,
-) -> Result<Vec<u8>> {
-    let mut line = match count {
-        Some(count) => {
-            let mut counted = String::new(alloc);
-            push_counted(&mut counted, text, count)?;
-            spelled_out(alloc, definitions, counted.as_str())?
+fn drop_line_feed(last: Option<&mut Exchange>) -> Result<(), Fault> {
+    match last {
+        Some(exchange) => {
+            let _line_feed = exchange.input.pop();
+            Ok(())
         }
-        None => spelled_out(alloc, definitions, text)?,
-    };
-    line.push(b'\n')?;
-    Ok(line)
+        None => Err(Fault::Wrong("no line that is not ended")),
+    }
 }
 
 // The words of a line.
-fn words_of(alloc: Global, line: &str) -> Result<Vec<String>> {
+fn words_of(alloc: Global, line: &str) -> Result<Vec<String>, Fault> {
     let mut words = Vec::new(alloc);
     for word in line.split_whitespace() {
         words.push(String::from_str(alloc, word)?)?;
@@ -249,35 +203,34 @@ fn words_of(alloc: Global, line: &str) -> Result<Vec<String>> {
 }
 
 // `of every size`, or sizes.
-fn pieces_of(alloc: Global, line: &str) -> Result<Pieces> {
+fn pieces_of(alloc: Global, line: &str) -> Result<Pieces, Fault> {
     if line == "of every size" {
         return Ok(Pieces::Every);
     }
     let mut sizes = Vec::new(alloc);
     for word in line.split_whitespace() {
-        sizes.push(word.parse::<usize>().context("no size of pieces")?)?;
+        sizes.push(word.parse::<usize>()?)?;
     }
-    ensure!(!sizes.is_empty(), "no size of pieces");
+    if sizes.is_empty() {
+        return Err(Fault::Wrong("no size of pieces"));
+    }
     Ok(Pieces::Sizes(sizes))
 }
 
 // What a line says that goes wrong.
-fn trouble_of(line: &str) -> Result<Trouble> {
-    if line == "every read fails" {
-        return Ok(Trouble::EveryRead);
+fn trouble_of(line: &str) -> Result<Trouble, Fault> {
+    match line {
+        "every read fails" => return Ok(Trouble::EveryRead),
+        "every write fails" => return Ok(Trouble::EveryWrite),
+        "every room is too small" => return Ok(Trouble::EveryRoom),
+        _ => {}
     }
-    if line == "every write fails" {
-        return Ok(Trouble::EveryWrite);
-    }
-    if line == "every room is too small" {
-        return Ok(Trouble::EveryRoom);
-    }
-    let (words, number) = line.rsplit_once(' ').context("an unknown line")?;
-    let number = number.parse::<u64>().context("an unknown line")?;
-    match words {
-        "read fails at call" => Ok(Trouble::Once(Fault::Read(number))),
-        "write fails at call" => Ok(Trouble::Once(Fault::Write(number))),
-        "room" => Ok(Trouble::Once(Fault::Room(number))),
-        _ => bail!("an unknown line"),
-    }
+    let (words, number) = line.rsplit_once(' ').unwrap_or((line, ""));
+    let failure = match words {
+        "read fails at call" => Failure::Read(number.parse::<u64>()?),
+        "write fails at call" => Failure::Write(number.parse::<u64>()?),
+        "room" => Failure::Room(number.parse::<u64>()?),
+        _ => return Err(Fault::Wrong("an unknown line")),
+    };
+    Ok(Trouble::Once(failure))
 }

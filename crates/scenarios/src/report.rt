@@ -1,20 +1,25 @@
 //! Tells a run that differs: where its scenario stands, what was wanted and what came.
 use crate::running::Outcome;
-use crate::scenario::{Fault, Scenario};
-use anyhow::Result;
+use crate::scenario::{Failure, Scenario};
+use case_notation::Fault;
 
 // How many bytes of a line are shown.
 const SHOWN: usize = 1_000;
 
 /// Prints the scenario's place and name, the run, both statuses, and the first line of the output that differs.
-pub fn tell(rt: &HostRuntime, file: &str, scenario: &Scenario, outcome: &Outcome) -> Result<()> {
+pub fn tell(
+    rt: &HostRuntime,
+    file: &str,
+    scenario: &Scenario,
+    outcome: &Outcome,
+) -> Result<(), Fault> {
     println!(rt; "{file}:{}: {}", scenario.line, scenario.name)?;
     println!(rt; "  in pieces of at most {}", outcome.piece)?;
-    match outcome.fault {
+    match outcome.failure {
         None => {}
-        Some(Fault::Read(call)) => println!(rt; "  where read {call} fails")?,
-        Some(Fault::Write(call)) => println!(rt; "  where write {call} fails")?,
-        Some(Fault::Room(room)) => println!(rt; "  where there is room for {room} bytes")?,
+        Some(Failure::Read(call)) => println!(rt; "  where read {call} fails")?,
+        Some(Failure::Write(call)) => println!(rt; "  where write {call} fails")?,
+        Some(Failure::Room(room)) => println!(rt; "  where there is room for {room} bytes")?,
     }
     println!(rt; "  wanted status {}", scenario.status)?;
     println!(rt; "  came   status {}", outcome.status)?;
@@ -22,7 +27,12 @@ pub fn tell(rt: &HostRuntime, file: &str, scenario: &Scenario, outcome: &Outcome
 }
 
 // Prints the first line of the output that differs.
-fn tell_lines(rt: &HostRuntime, file: &str, scenario: &Scenario, outcome: &Outcome) -> Result<()> {
+fn tell_lines(
+    rt: &HostRuntime,
+    file: &str,
+    scenario: &Scenario,
+    outcome: &Outcome,
+) -> Result<(), Fault> {
     let wanted = String::from_utf8_lossy(rt.alloc(), outcome.wanted.as_slice())?;
     let came = String::from_utf8_lossy(rt.alloc(), outcome.output.as_slice())?;
     let mut replies: usize = 0;
@@ -53,7 +63,7 @@ fn is_same_line(wanted: &str, came: &str, place: usize) -> bool {
 }
 
 // Prints the front of the line at a place, behind what it is.
-fn tell_line(rt: &HostRuntime, what: &str, text: &str, place: usize) -> Result<()> {
+fn tell_line(rt: &HostRuntime, what: &str, text: &str, place: usize) -> Result<(), Fault> {
     match text.lines().nth(place) {
         Some(line) => println!(rt; "  {what} {}", front(line))?,
         None => println!(rt; "  {what} (nothing)")?,

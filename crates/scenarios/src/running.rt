@@ -1,7 +1,7 @@
 //! Runs scenarios through the service's public call, and finds the first run that differs.
 use crate::ends::{NarrowSink, NarrowSource};
-use crate::scenario::{Fault, Pieces, Scenario, Trouble};
-use anyhow::{Result, ensure};
+use crate::scenario::{Failure, Pieces, Scenario, Trouble};
+use case_notation::Fault;
 use dv_base::{MemSink, MemSource};
 use dv_service::{Status, top};
 use std::alloc::{AllocError, Global};
@@ -11,34 +11,63 @@ use std::alloc::{AllocError, Global};
 pub struct Outcome {
     /// The most bytes that a read gave.
     pub piece: usize,
-    pub fault: Option<Fault>,
+    pub failure: Option<Failure>,
     pub status: u8,
     pub output: Vec<u8>,
     pub wanted: Vec<u8>,
     reads: u64,
 }
 
+impl Outcome {
+    fn differs(&self, scenario: &Scenario) -> bool {
+        self.status != scenario.status || self.output.as_slice() != self.wanted.as_slice()
+    }
+}
+
 /// Runs the scenario in each way that it asks for, up to the first run that differs.
-pub fn first_difference(alloc: Global, scenario: &Scenario) -> Result<Option<Outcome>> {
+pub fn first_difference(alloc: Global, scenario: &Scenario) -> Result<Option<Outcome>, Fault> {
     let mut input = Vec::new(alloc);
     for exchange in scenario.exchanges.iter() {
         input.extend_from_slice(exchange.input.as_slice())?;
     }
     for piece in sizes_of(alloc, &scenario.pieces, input.len())? {
-        let faults = faults_of(alloc, scenario, input.as_slice(), piece)?;
-        ensure!(!faults.is_empty(), "nothing can fail in this scenario");
-        for fault in faults {
-            let outcome = run(alloc, scenario, input.as_slice(), piece, fault)?;
-            if outcome.status != scenario.status || outcome.output != outcome.wanted {
-                return Ok(Some(outcome));
-            }
+        let failures = failures_of(alloc, scenario, input.as_slice(), piece)?;
+        let outcome = first_differing(
+            alloc,
+            scenario,
+            input.as_slice(),
+            piece,
+            failures.as_slice(),
+        )?;
+        if outcome.is_some() {
+            return Ok(outcome);
+        }
+    }
+    Ok(None)
+}
+
+// The first run that differs of those with these failures.
+fn first_differing(
+    alloc: Global,
+    scenario: &Scenario,
+    input: &[u8],
+    piece: usize,
+    failures: &[Option<Failure>],
+) -> Result<Option<Outcome>, Fault> {
+    if failures.is_empty() {
+        return Err(Fault::Wrong("nothing can fail in this scenario"));
+    }
+    for failure in failures {
+        let outcome = run(alloc, scenario, input, piece, *failure)?;
+        if outcome.differs(scenario) {
+            return Ok(Some(outcome));
         }
     }
     Ok(None)
 }
 
 // The sizes of pieces, for an input of so many bytes.
-fn sizes_of(alloc: Global, pieces: &Pieces, length: usize) -> Result<Vec<usize>> {
+fn sizes_of(alloc: Global, pieces: &Pieces, length: usize) -> Result<Vec<usize>, Fault> {
     let mut sizes = Vec::new(alloc);
     match pieces {
         Pieces::Every => {
@@ -52,34 +81,34 @@ fn sizes_of(alloc: Global, pieces: &Pieces, length: usize) -> Result<Vec<usize>>
 }
 
 // What goes wrong in the runs with pieces of this size, one after another.
-fn faults_of(
+fn failures_of(
     alloc: Global,
     scenario: &Scenario,
     input: &[u8],
     piece: usize,
-) -> Result<Vec<Option<Fault>>> {
-    let mut faults = Vec::new(alloc);
+) -> Result<Vec<Option<Failure>>, Fault> {
+    let mut failures = Vec::new(alloc);
     match scenario.trouble {
-        Trouble::Nothing => faults.push(None)?,
-        Trouble::Once(fault) => faults.push(Some(fault))?,
+        Trouble::Nothing => failures.push(None)?,
+        Trouble::Once(failure) => failures.push(Some(failure))?,
         Trouble::EveryRead => {
             let reads = run(alloc, scenario, input, piece, None)?.reads;
             for k in 0..reads {
-                faults.push(Some(Fault::Read(k.saturating_add(1))))?;
+                failures.push(Some(Failure::Read(k.saturating_add(1))))?;
             }
         }
         Trouble::EveryWrite => {
             for k in 0..reply_count(scenario) {
-                faults.push(Some(Fault::Write(k.saturating_add(1))))?;
+                failures.push(Some(Failure::Write(k.saturating_add(1))))?;
             }
         }
         Trouble::EveryRoom => {
             for room in 0..reply_bytes(scenario) {
-                faults.push(Some(Fault::Room(room)))?;
+                failures.push(Some(Failure::Room(room)))?;
             }
         }
     }
-    Ok(faults)
+    Ok(failures)
 }
 
 // How many lines are answered.
@@ -109,13 +138,13 @@ fn run(
     scenario: &Scenario,
     input: &[u8],
     piece: usize,
-    fault: Option<Fault>,
-) -> Result<Outcome> {
-    let (failing_read, failing_write, room) = match fault {
+    failure: Option<Failure>,
+) -> Result<Outcome, Fault> {
+    let (failing_read, failing_write, room) = match failure {
         None => (0, 0, None),
-        Some(Fault::Read(call)) => (call, 0, None),
-        Some(Fault::Write(call)) => (0, call, None),
-        Some(Fault::Room(room)) => (0, 0, Some(room)),
+        Some(Failure::Read(call)) => (call, 0, None),
+        Some(Failure::Write(call)) => (0, call, None),
+        Some(Failure::Room(room)) => (0, 0, Some(room)),
     };
     let mut source = NarrowSource::new(
         MemSource::failing(Vec::from_slice(alloc, input)?, failing_read),
@@ -129,10 +158,10 @@ fn run(
     let Status(status) = top(alloc, scenario.words.as_slice(), &mut source, &mut sink);
     Ok(Outcome {
         piece,
-        fault,
+        failure,
         status,
         output: Vec::from_slice(alloc, sink.inner.bytes())?,
-        wanted: replies_of(alloc, scenario, fault, source.given)?,
+        wanted: replies_of(alloc, scenario, failure, source.given)?,
         reads: source.reads,
     })
 }
@@ -142,7 +171,7 @@ fn run(
 fn replies_of(
     alloc: Global,
     scenario: &Scenario,
-    fault: Option<Fault>,
+    failure: Option<Failure>,
     given: usize,
 ) -> Result<Vec<u8>, AllocError> {
     let mut replies = Vec::new(alloc);
@@ -151,16 +180,16 @@ fn replies_of(
     for exchange in scenario.exchanges.iter() {
         ended = ended.saturating_add(exchange.input.len());
         writes = writes.saturating_add(u64::from(!exchange.reply.is_empty()));
-        let comes = match fault {
-            Some(Fault::Read(_)) => ended <= given && exchange.input.ends_with(b"\n"),
-            Some(Fault::Write(call)) => writes < call,
+        let comes = match failure {
+            Some(Failure::Read(_)) => ended <= given && exchange.input.ends_with(b"\n"),
+            Some(Failure::Write(call)) => writes < call,
             _ => true,
         };
         if comes {
             replies.extend_from_slice(exchange.reply.as_slice())?;
         }
     }
-    if let Some(Fault::Room(room)) = fault {
+    if let Some(Failure::Room(room)) = failure {
         replies.truncate(room as usize);
     }
     Ok(replies)

@@ -10,18 +10,18 @@ pub struct Exchange {
 }
 
 /// What goes wrong: the call of an end that fails, counted from 1, or the room of the sink in bytes.
-#[derive(Clone, Copy, PartialEq, Eq)]
-pub enum Fault {
+#[derive(Clone, Copy)]
+pub enum Failure {
     Read(u64),
     Write(u64),
     Room(u64),
 }
 
 /// What goes wrong in a scenario, in each of its runs.
-#[derive(Clone, Copy, PartialEq, Eq)]
+#[derive(Clone, Copy)]
 pub enum Trouble {
     Nothing,
-    Once(Fault),
+    Once(Failure),
     /// Each call of `read` fails in a run of its own.
     EveryRead,
     /// Each call of `write` fails in a run of its own.

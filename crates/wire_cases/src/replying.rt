@@ -1,8 +1,7 @@
 //! A reply by its name and its fields, as `{"reply":"Created","id":26}`, and the bytes that it is printed as.
-
-use crate::fields::{count, flag, id, list, number, raw, row, signed, text, word};
+use crate::fields::{count, field, flag, id, list, number, raw, row, signed, text, word};
 use crate::refusing::refusal;
-use anyhow::{Context, Result, bail};
+use case_notation::{Fault, found};
 use dv_print::print_reply;
 use dv_request::{Change, Reply, Share};
 use dv_value::{Id, Token, Values};
@@ -11,15 +10,30 @@ use sqlite_items::Items;
 use std::alloc::Global;
 
 /// The bytes that a reply is printed as.
-pub fn printed(alloc: Global, input: &str) -> Result<String> {
-    let reply = batch(alloc, &Json::from_str(alloc, input)?)?;
-    let bytes = print_reply(alloc, &reply)?;
-    let text = str::from_utf8(bytes.as_slice())?;
+pub fn printed(alloc: Global, input: &str) -> Result<String, Fault> {
+    let Ok(json) = Json::from_str(alloc, input) else {
+        return Err(Fault::Wrong("no JSON"));
+    };
+    match batch(alloc, &json) {
+        Ok(reply) => text_of(alloc, &reply),
+        Err(fault) => Err(fault),
+    }
+}
+
+fn text_of(alloc: Global, reply: &Reply) -> Result<String, Fault> {
+    match print_reply(alloc, reply) {
+        Ok(bytes) => string_of(alloc, bytes.as_slice()),
+        Err(error) => Err(Fault::from(error)),
+    }
+}
+
+fn string_of(alloc: Global, bytes: &[u8]) -> Result<String, Fault> {
+    let text = str::from_utf8(bytes)?;
     Ok(String::from_str(alloc, text)?)
 }
 
 // A reply, or those of a batch, in which batches may stand.
-fn batch(alloc: Global, fields: &Json) -> Result<Reply> {
+fn batch(alloc: Global, fields: &Json) -> Result<Reply, Fault> {
     if !is_batch(fields) {
         return single(alloc, fields);
     }
@@ -31,7 +45,7 @@ fn batch(alloc: Global, fields: &Json) -> Result<Reply> {
 }
 
 // A reply, or those of a batch in a batch.
-fn inner_batch(alloc: Global, fields: &Json) -> Result<Reply> {
+fn inner_batch(alloc: Global, fields: &Json) -> Result<Reply, Fault> {
     if !is_batch(fields) {
         return single(alloc, fields);
     }
@@ -43,78 +57,96 @@ fn inner_batch(alloc: Global, fields: &Json) -> Result<Reply> {
 }
 
 fn is_batch(fields: &Json) -> bool {
-    fields.get("reply").and_then(Json::as_str) == Some("Replies")
+    matches!(word(fields, "reply"), Ok("Replies"))
 }
 
-fn single(alloc: Global, fields: &Json) -> Result<Reply> {
+fn single(alloc: Global, fields: &Json) -> Result<Reply, Fault> {
     if fields.get("refusal").is_some() {
-        return Ok(Reply::Refused {
-            refusal: refusal(alloc, fields)?,
-            item: optional_count(fields, "item")?,
-        });
+        return refused(alloc, fields);
     }
-    Ok(match word(fields, "reply")? {
-        "Done" => Reply::Done,
-        "Created" => Reply::Created {
-            id: id(fields, "id")?,
-        },
-        "Found" => Reply::Found {
-            row: row(alloc, fields.get("row").context("no row")?)?,
-        },
-        "Rights" => Reply::Rights {
-            rights: count(fields, "rights")?,
-        },
-        "Shares" => Reply::Shares {
-            shares: shares(alloc, list(fields, "shares")?)?,
-        },
-        "Page" => page(alloc, fields)?,
-        "Changes" => Reply::Changes {
-            changes: changes(alloc, list(fields, "changes")?)?,
-            more: flag(fields, "more")?,
-            token: token(fields.get("token").context("no token")?)?,
-        },
-        "Rolled" => Reply::Rolled {
-            state: signed(fields, "state")?,
-            value: raw(fields, "value")?,
-        },
-        "Calculated" => Reply::Calculated {
-            calculated: number(fields, "calculated")?,
-        },
-        "Caller" => Reply::Caller {
-            user: id(fields, "user")?,
-            unit: id(fields, "unit")?,
-            teams: ids(alloc, list(fields, "teams")?)?,
-        },
-        name => bail!("no reply {name}"),
-    })
+    match word(fields, "reply")? {
+        "Done" => Ok(Reply::Done),
+        "Created" => created(fields),
+        "Found" => found_row(alloc, fields),
+        "Rights" => rights(fields),
+        "Shares" => shares(alloc, fields),
+        "Page" => page(alloc, fields),
+        "Changes" => changes(alloc, fields),
+        "Rolled" => rolled(fields),
+        "Calculated" => calculated(fields),
+        "Caller" => caller(alloc, fields),
+        _ => Err(Fault::Wrong("no reply")),
+    }
 }
 
-fn page(alloc: Global, fields: &Json) -> Result<Reply> {
-    let cookie = match fields.get("cookie") {
-        Some(_) => Some(text(alloc, fields, "cookie")?),
-        None => None,
-    };
+fn refused(alloc: Global, fields: &Json) -> Result<Reply, Fault> {
+    let item = optional_count(fields, "item")?;
+    let refusal = refusal(alloc, fields)?;
+    Ok(Reply::Refused { refusal, item })
+}
+
+fn created(fields: &Json) -> Result<Reply, Fault> {
+    let id = id(fields, "id")?;
+    Ok(Reply::Created { id })
+}
+
+fn found_row(alloc: Global, fields: &Json) -> Result<Reply, Fault> {
+    let row = row(alloc, field(fields, "row")?)?;
+    Ok(Reply::Found { row })
+}
+
+fn rights(fields: &Json) -> Result<Reply, Fault> {
+    let rights = count(fields, "rights")?;
+    Ok(Reply::Rights { rights })
+}
+
+fn rolled(fields: &Json) -> Result<Reply, Fault> {
+    let state = signed(fields, "state")?;
+    let value = raw(fields, "value")?;
+    Ok(Reply::Rolled { state, value })
+}
+
+fn calculated(fields: &Json) -> Result<Reply, Fault> {
+    let calculated = number(fields, "calculated")?;
+    Ok(Reply::Calculated { calculated })
+}
+
+fn caller(alloc: Global, fields: &Json) -> Result<Reply, Fault> {
+    let user = id(fields, "user")?;
+    let unit = id(fields, "unit")?;
+    let teams = ids(alloc, list(fields, "teams")?)?;
+    Ok(Reply::Caller { user, unit, teams })
+}
+
+fn page(alloc: Global, fields: &Json) -> Result<Reply, Fault> {
+    let more = flag(fields, "more")?;
+    let total = optional_count(fields, "total")?;
     let over = match fields.get("over") {
         Some(_) => Some(flag(fields, "over")?),
         None => None,
     };
+    let cookie = match fields.get("cookie") {
+        Some(_) => Some(text(alloc, fields, "cookie")?),
+        None => None,
+    };
+    let rows = rows(alloc, list(fields, "rows")?)?;
     Ok(Reply::Page {
-        rows: rows(alloc, list(fields, "rows")?)?,
-        more: flag(fields, "more")?,
+        rows,
+        more,
         cookie,
-        total: optional_count(fields, "total")?,
+        total,
         over,
     })
 }
 
-fn optional_count(fields: &Json, name: &str) -> Result<Option<u32>> {
+fn optional_count(fields: &Json, name: &str) -> Result<Option<u32>, Fault> {
     match fields.get(name) {
         Some(_) => Ok(Some(count(fields, name)?)),
         None => Ok(None),
     }
 }
 
-fn rows(alloc: Global, list: &[Json]) -> Result<Items<Values>> {
+fn rows(alloc: Global, list: &[Json]) -> Result<Items<Values>, Fault> {
     let mut rows = Items::new(alloc);
     for json in list {
         rows.push(row(alloc, json)?)?;
@@ -122,50 +154,60 @@ fn rows(alloc: Global, list: &[Json]) -> Result<Items<Values>> {
     Ok(rows)
 }
 
-fn ids(alloc: Global, list: &[Json]) -> Result<Items<Id>> {
+fn ids(alloc: Global, list: &[Json]) -> Result<Items<Id>, Fault> {
     let mut ids = Items::new(alloc);
     for json in list {
-        let number = json.as_u64().context("no number of an id")?;
+        let number = found(json.as_u64(), "no number of an id")?;
         ids.push(Id(u128::from(number)))?;
     }
     Ok(ids)
 }
 
-fn shares(alloc: Global, list: &[Json]) -> Result<Items<Share>> {
+fn shares(alloc: Global, fields: &Json) -> Result<Reply, Fault> {
     let mut shares = Items::new(alloc);
-    for json in list {
-        shares.push(Share {
-            principal: id(json, "principal")?,
-            direct: count(json, "direct")?,
-            inherited: count(json, "inherited")?,
-        })?;
+    for json in list(fields, "shares")? {
+        shares.push(share(json)?)?;
     }
-    Ok(shares)
+    Ok(Reply::Shares { shares })
 }
 
-fn changes(alloc: Global, list: &[Json]) -> Result<Items<Change>> {
+fn share(json: &Json) -> Result<Share, Fault> {
+    let principal = id(json, "principal")?;
+    let direct = count(json, "direct")?;
+    let inherited = count(json, "inherited")?;
+    Ok(Share {
+        principal,
+        direct,
+        inherited,
+    })
+}
+
+fn changes(alloc: Global, fields: &Json) -> Result<Reply, Fault> {
+    let more = flag(fields, "more")?;
+    let token = token(field(fields, "token")?)?;
     let mut changes = Items::new(alloc);
-    for json in list {
+    for json in list(fields, "changes")? {
         changes.push(change(alloc, json)?)?;
     }
-    Ok(changes)
-}
-
-fn change(alloc: Global, json: &Json) -> Result<Change> {
-    match json.get("row") {
-        Some(json) => Ok(Change::Row {
-            row: row(alloc, json)?,
-        }),
-        None => Ok(Change::Removed {
-            id: id(json, "removed")?,
-            version: number(json, "version")?,
-        }),
-    }
-}
-
-fn token(json: &Json) -> Result<Token> {
-    Ok(Token {
-        start: number(json, "start")?,
-        place: number(json, "place")?,
+    Ok(Reply::Changes {
+        changes,
+        more,
+        token,
     })
+}
+
+fn change(alloc: Global, json: &Json) -> Result<Change, Fault> {
+    if let Some(json) = json.get("row") {
+        let row = row(alloc, json)?;
+        return Ok(Change::Row { row });
+    }
+    let id = id(json, "removed")?;
+    let version = number(json, "version")?;
+    Ok(Change::Removed { id, version })
+}
+
+fn token(json: &Json) -> Result<Token, Fault> {
+    let start = number(json, "start")?;
+    let place = number(json, "place")?;
+    Ok(Token { start, place })
 }

@@ -1,44 +1,57 @@
 //! Request lines: `> LINE` as it stands, or the members of a request by the user of id 101.
-
-use crate::notation::bytes;
-use anyhow::{Result, bail};
+use case_notation::{Fault, behind_blank, bytes_of, joined, without_wrappings};
 use dv_request::Request;
 use dv_value::Id;
 use dv_wire::{WireFault, read_request};
 use std::alloc::{AllocError, Global};
 
 /// The request that a line is read as.
-pub fn request(alloc: Global, input: &str) -> Result<String> {
-    match read_request(alloc, line_of(alloc, input)?.as_slice()) {
+pub fn request(alloc: Global, input: &str) -> Result<String, Fault> {
+    let line = line_of(alloc, input)?;
+    match read_request(alloc, line.as_slice()) {
         Ok((Id(101), request)) => Ok(shown(alloc, &request)?),
-        Ok((caller, _)) => bail!("a request by {caller:?}"),
-        Err(WireFault::Malformed(place)) => bail!("a fault at {}", place.as_str()),
-        Err(WireFault::OutOfMemory) => bail!("out of memory"),
+        Ok(_) => Err(Fault::Wrong("a request by another caller")),
+        Err(fault) => Err(told(fault)),
+    }
+}
+
+fn told(fault: WireFault) -> Fault {
+    match fault {
+        WireFault::Malformed(_) => Fault::Wrong("a fault"),
+        WireFault::OutOfMemory => Fault::OutOfMemory,
     }
 }
 
 /// The place of the first fault of a line.
-pub fn fault(alloc: Global, input: &str) -> Result<String> {
-    match read_request(alloc, line_of(alloc, input)?.as_slice()) {
-        Ok((_, request)) => bail!("the request {request:?}"),
-        Err(WireFault::Malformed(place)) => Ok(String::from_str(alloc, place.as_str())?),
-        Err(WireFault::OutOfMemory) => bail!("out of memory"),
+pub fn fault(alloc: Global, input: &str) -> Result<String, Fault> {
+    let line = line_of(alloc, input)?;
+    match read_request(alloc, line.as_slice()) {
+        Ok(_) => Err(Fault::Wrong("a request")),
+        Err(fault) => place_of(alloc, fault),
     }
 }
 
-fn line_of(alloc: Global, input: &str) -> Result<Vec<u8>> {
-    if let Some(line) = input.strip_prefix('>') {
-        return bytes(alloc, line.strip_prefix(' ').unwrap_or(line));
+fn place_of(alloc: Global, fault: WireFault) -> Result<String, Fault> {
+    match fault {
+        WireFault::Malformed(place) => Ok(String::from_str(alloc, place.as_str())?),
+        WireFault::OutOfMemory => Err(Fault::OutOfMemory),
     }
-    let line = format!(in alloc; "{{\"caller\":\"#101\",{input}}}")?;
-    bytes(alloc, line.as_str())
 }
 
-// The request as Rust prints it, but for the structs around texts and lists.
-fn shown(alloc: Global, request: &Request) -> Result<String, AllocError> {
-    format!(in alloc; "{request:?}")?
-        .replace(alloc, "Text { inner: \"", "\"")?
-        .replace(alloc, "\" }", "\"")?
-        .replace(alloc, "Items { items: [", "[")?
-        .replace(alloc, "] }", "]")
+fn line_of(alloc: Global, input: &str) -> Result<Vec<u8>, Fault> {
+    match input.strip_prefix('>') {
+        Some(line) => bytes_of(alloc, behind_blank(line)),
+        None => bytes_of(alloc, by_caller(alloc, input)?.as_str()),
+    }
+}
+
+// The line of a request that has these members beside its caller.
+fn by_caller(alloc: Global, members: &str) -> Result<String, AllocError> {
+    joined(alloc, &["{\"caller\":\"#101\",", members, "}"])
+}
+
+/// The request as Rust prints it, but for the structs around texts and lists.
+pub fn shown(alloc: Global, request: &Request) -> Result<String, AllocError> {
+    let printed = format!(in alloc; "{request:?}")?;
+    without_wrappings(alloc, printed.as_str())
 }

@@ -1,39 +1,34 @@
 //! What comes of a case: the lines that answer its question.
-use crate::case::{Case, Question};
-use crate::notation::bytes_of;
+use crate::asked::{Asked, Question};
 use crate::showing::show;
-use anyhow::{Result, bail};
-use dv_meta::{DefFault, DefKind, Definition, read_definition};
-use dv_refusal::Refusal;
-use dv_value::Text;
+use case_notation::{Answers, Case, Fault};
+use dv_meta::{DefFault, DefKind, Definition, Table, read_definition};
 use std::alloc::{AllocError, Global};
 
-/// The lines that answer a case.
-pub fn answer(alloc: Global, case: &Case<'_>) -> Result<String> {
-    let bytes = bytes_of(alloc, case.text.as_str(), case.length)?;
-    match read_definition(alloc, bytes.as_slice(), case.steps) {
-        Ok(definition) => Ok(accepted(alloc, &definition, case.question)?),
-        Err(DefFault::Bad { kind, place }) => Ok(refused(alloc, kind, place, case.question)?),
-        Err(DefFault::OutOfMemory) => bail!("out of memory"),
+/// The cases of table definitions.
+pub struct World;
+
+impl Answers for World {
+    fn answer(&self, rt: &HostRuntime, case: &Case<'_>) -> Result<String, Fault> {
+        let asked = Asked::read(rt, case.input.as_slice())?;
+        let bytes = asked.bytes(rt.alloc())?;
+        let question = asked.question;
+        match read_definition(rt.alloc(), bytes.as_slice(), asked.steps) {
+            Ok(definition) => Ok(accepted(rt.alloc(), &definition, question)?),
+            Err(DefFault::Bad { kind, place }) => Ok(refused(rt.alloc(), kind, place.as_str())?),
+            Err(DefFault::OutOfMemory) => Err(Fault::OutOfMemory),
+        }
     }
 }
 
-fn refused(
-    alloc: Global,
-    kind: DefKind,
-    place: Text,
-    question: Question<'_>,
-) -> Result<String, AllocError> {
-    let word = format!(in alloc; "{kind:?}")?;
-    if let Question::Refusal = question {
-        let kind = Text::from_string(word);
-        let refusal = Refusal::BadDefinition { kind, place };
-        return refusal.to_json(alloc)?.to_string(alloc);
+// The kind and the place of a fault.
+fn refused(alloc: Global, kind: DefKind, place: &str) -> Result<String, AllocError> {
+    let mut word = format!(in alloc; "{kind:?}")?;
+    if !place.is_empty() {
+        word.push_str(" ")?;
+        word.push_str(place)?;
     }
-    if place.as_str().is_empty() {
-        return Ok(word);
-    }
-    format!(in alloc; "{word} {}", place.as_str())
+    Ok(word)
 }
 
 fn accepted(
@@ -42,10 +37,10 @@ fn accepted(
     question: Question<'_>,
 ) -> Result<String, AllocError> {
     match question {
-        Question::Fault | Question::Refusal => String::from_str(alloc, "accepted"),
+        Question::Fault => String::from_str(alloc, "accepted"),
         Question::Counts => counts(alloc, definition),
         Question::Table(name) => match definition.table(name) {
-            Some(number) => format!(in alloc; "{number}"),
+            Some(number) => number.to_string(alloc),
             None => String::from_str(alloc, "none"),
         },
         Question::Lines(beginning) => lines(alloc, definition, beginning),
@@ -64,20 +59,41 @@ fn lines(alloc: Global, definition: &Definition, beginning: &str) -> Result<Stri
     Ok(lines)
 }
 
+// How many items each list of a definition has.
 fn counts(alloc: Global, definition: &Definition) -> Result<String, AllocError> {
-    let tables = definition.tables();
-    let lengths = || tables.iter().map(|table| table.columns.as_slice().len());
-    let least = lengths().min().unwrap_or(0);
-    let most = lengths().max().unwrap_or(0);
     let opening = definition.opening();
-    format!(in alloc;
-        "{} tables of {least} to {most} columns, {} relationships, {} registrations, {} units, {} roles, {} users, {} teams",
-        tables.len(),
+    let (least, most) = columns_of(definition.tables());
+    let mut counts = String::new(alloc);
+    write!(
+        counts,
+        "{} tables of {least} to {most} columns",
+        definition.tables().len()
+    )?;
+    add_count(
         definition.relationships().len(),
-        definition.steps().len(),
-        opening.units.len(),
-        opening.roles.len(),
-        opening.users.len(),
-        opening.teams.len(),
-    )
+        "relationships",
+        &mut counts,
+    )?;
+    add_count(definition.steps().len(), "registrations", &mut counts)?;
+    add_count(opening.units.len(), "units", &mut counts)?;
+    add_count(opening.roles.len(), "roles", &mut counts)?;
+    add_count(opening.users.len(), "users", &mut counts)?;
+    add_count(opening.teams.len(), "teams", &mut counts)?;
+    Ok(counts)
+}
+
+fn add_count(count: usize, list: &str, counts: &mut String) -> Result<(), AllocError> {
+    write!(counts, ", {count} {list}")
+}
+
+// The least and the most columns of a table.
+fn columns_of(tables: &[Table]) -> (usize, usize) {
+    let mut least = usize::MAX;
+    let mut most = 0usize;
+    for table in tables {
+        let columns = table.columns.as_slice().len();
+        least = least.min(columns);
+        most = most.max(columns);
+    }
+    (least.min(most), most)
 }
