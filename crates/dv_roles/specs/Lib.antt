@@ -1,0 +1,9 @@
+pub mod State
+pub mod Actions
+pub mod Entries
+pub mod Messages
+pub mod Held
+pub mod Seated
+pub mod Walk
+pub mod Reaches
+pub mod Lending

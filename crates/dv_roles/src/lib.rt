@@ -1,0 +1,22 @@
+//! The directory: the organisation chart, security roles, who has them, and what a user holds by them.
+//!
+//! The layers above may rely on this: a change is made whole, or refused by the first rule that it breaks and nothing
+//! is changed; the privileges of a role are kept spread out over actions and tables.
+#![tactic(auto)]
+
+mod actions;
+mod directory;
+mod entries;
+mod gifts;
+mod held;
+mod lists;
+mod principal;
+mod reach;
+mod role;
+mod roles;
+mod spreading;
+mod users;
+
+pub use directory::Directory;
+pub use reach::Reach;
+pub use role::{RoleEntry, SecurityRole};
