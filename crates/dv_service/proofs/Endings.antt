@@ -1,4 +1,4 @@
-use Rattle.std.proofs.Common.{◌≡◌, ℕ, refl, arith}
+use Rattle.std.proofs.Common.{◌≡◌, refl, arith}
 use Rattle.dv_service.specs.Statuses.{code_of}
 use Rattle.dv_service.specs.declared.status.Ending.{Ending}
 use Rattle.dv_service.specs.declared.status.Ending.TheVariants as ending

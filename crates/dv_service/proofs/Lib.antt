@@ -5,6 +5,7 @@ pub mod Endings
 pub mod Held
 pub mod Inputs
 pub mod Leaving
+pub mod Numbers
 pub mod Refused
 pub mod Results
 pub mod Runs

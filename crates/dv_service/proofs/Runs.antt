@@ -6,7 +6,7 @@ use Rattle.serde_json.proofs.OnLiterals.{serde_json_on_literals}
 use Rattle.dv_base.proofs.KnownBytesLaws.{append_known-nil, append_known-append}
 use Rattle.dv_refusal.specs.Refusals.{refusal_members, details_of, number_of}
 use Rattle.dv_refusal.specs.declared.refusal.Refusal.TheVariants.{OutOfMemory}
-use Rattle.dv_store.specs.Rows.{Kept, nothing}
+use Rattle.dv_service.specs.Rows.{Kept, nothing}
 use Rattle.dv_service.specs.Replies.{reply_line, reply_data, printed, bad_definition}
 use Rattle.dv_service.specs.Machine.{Run, Step, begin}
 use Rattle.dv_service.specs.Outcome.{Answered}

@@ -1,5 +1,5 @@
 use Rattle.std.proofs.Common.{◌≡◌, ℕ, List, [], ◌∷◌, map, refl, ap}
-use Rattle.dv_store.specs.declared.row.Row.{Row}
+use Rattle.dv_service.specs.declared.row.Row.{Row}
 use Rattle.dv_service.specs.Serve.{cell_of}
 use Rattle.dv_service.specs.Showing.{selected_of, shown_cell}
 use Rattle.dv_service.specs.declared.definition.Column.{Column}

@@ -1,7 +1,6 @@
 -- How the telling of faults goes over several calls.
 use Rattle.std.proofs.Common.{◌≡◌, ℕ, Ok, Err, IsErrOf, refl, sym, ◌∙◌, subst}
 use Rattle.dv_base.specs.Faults.{Rose}
-use Rattle.dv_base.proofs.FaultLaws.{Rose-since}
 use Rattle.dv_service.specs.Sessions.{TellsFault}
 use Rattle.dv_service.specs.Statuses.{ending_of}
 use Rattle.dv_service.specs.declared.run.Turn.TheVariants.{Took, AtEnd, ReadFault, Stopped}

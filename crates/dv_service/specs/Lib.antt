@@ -5,6 +5,7 @@ pub mod Requests
 pub mod Replies
 pub mod Serve
 pub mod Showing
+pub mod Rows
 pub mod Machine
 pub mod Outcome
 pub mod Sessions

@@ -1,7 +1,7 @@
 -- The machine that is served: its first line begins the organisation, and each later line is one step of it.
 use Rattle.std.specs.Prelude.{◌≡◌, ◌⊎◌, ℕ, List, [], ◌∷◌, Option, Some, None}
 use Rattle.dv_refusal.specs.declared.refusal.Refusal.TheVariants.{OutOfMemory}
-use Rattle.dv_store.specs.Rows.{nothing}
+use Rattle.dv_service.specs.Rows.{nothing}
 use Rattle.dv_service.specs.Definitions.{opening_of}
 use Rattle.dv_service.specs.Replies.{reply_line, bad_definition}
 use Rattle.dv_service.specs.Serve.{answer}

@@ -12,8 +12,8 @@ use Rattle.dv_value.specs.declared.raw.Raw.TheVariants as raw
 use Rattle.dv_refusal.specs.declared.refusal.Refusal.TheVariants.{Malformed, UnknownCaller, NotBuilt}
 use Rattle.dv_value.specs.declared.value.Value.{Value}
 use Rattle.dv_value.specs.declared.value.Value.TheVariants as value
-use Rattle.dv_store.specs.Rows.{with_row}
-use Rattle.dv_store.specs.declared.row.Row.{Row}
+use Rattle.dv_service.specs.Rows.{with_row}
+use Rattle.dv_service.specs.declared.row.Row.{Row}
 use Rattle.dv_service.specs.Lines.{within_limit}
 use Rattle.dv_service.specs.Requests.{request_of}
 use Rattle.dv_service.specs.declared.definition.Column.{Column}

@@ -1,7 +1,7 @@
 -- What one turn of a run leaves, and what the end of its input leaves.
-use Rattle.std.specs.Prelude.{◌≡◌, ◌⊎◌, ◌≤◌, ℕ, List, [], ◌++◌, length, Option, Some, Result, Err}
+use Rattle.std.specs.Prelude.{◌≡◌, ◌⊎◌, ◌≤◌, ℕ, List, [], ◌++◌, length, Option, Some, Err}
 use Rattle.std.specs.Io.KnownBytes.{prepend_known, IsAtEnd}
-use Rattle.dv_service.specs.Lines.{ended_lines, lines_of}
+use Rattle.dv_service.specs.Lines.{ended_lines}
 use Rattle.dv_service.specs.Outcome.{Answered, CutIn}
 use Rattle.dv_service.specs.Sessions.{Stands, IsRefused, Leaves}
 use Rattle.dv_service.specs.declared.org.Org.{Org}
@@ -10,7 +10,6 @@ use Rattle.dv_service.specs.declared.run.Turn.TheVariants.{Took, AtEnd, ReadFaul
 use Rattle.dv_service.specs.declared.session.Session.{Session}
 use Rattle.dv_service.specs.declared.status.Ending.{Ending}
 use Rattle.dv_service.specs.declared.status.Ending.TheVariants as ending
-use Rattle.dv_service.specs.declared.status.Stop.{Stop}
 
 -- What a turn tells of the piece that it took: the session stands behind it, or was stopped in it.
 abbrev pub TurnedAt : Turn → List ℕ → List ℕ → Session → Option (List ℕ) → Option (List ℕ) → Option (List ℕ) → Type 0

@@ -1,10 +1,10 @@
 //! The organisation.
 use crate::definition::Definition;
-use dv_store::Store;
+use crate::row_list::RowList;
 
 /// An organisation: its definition and what it keeps.
 #[derive(Debug, Drop)]
 pub struct Org {
     pub definition: Definition,
-    pub store: Store,
+    pub store: RowList,
 }

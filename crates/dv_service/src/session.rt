@@ -5,10 +5,10 @@ ghost use Rattle.dv_service.specs.Sessions.{Wrote, AnswersHeld, Takes, EndsLine,
 use crate::line_buffer::LineBuffer;
 use crate::opening::read_opening;
 use crate::org::Org;
+use crate::row_list::RowList;
 use crate::serving::serve_line;
 use crate::status::Stop;
 use dv_base::{Sink, send};
-use dv_store::Store;
 use std::alloc::Global;
 
 // The line that tells that memory ran out.
@@ -70,7 +70,7 @@ fn begin_by<W: Sink>(
     match read_opening(alloc, line.line()) {
         Ok(Some(definition)) => match write_line(output, OPENED_LINE) {
             Ok(()) => {
-                let store = Store::new(alloc);
+                let store = RowList::new(alloc);
                 *org = Some(Org { definition, store });
                 Ok(())
             }

@@ -5,7 +5,7 @@ ghost use Rattle.dv_service.specs.Showing.{selected_of, shown_cell};
 
 use crate::definition::Column;
 use crate::reply::{Cell, Shown};
-use dv_store::Row;
+use crate::row::Row;
 use dv_value::{Text, Value};
 use sqlite_items::Items;
 use std::alloc::{AllocError, Global};

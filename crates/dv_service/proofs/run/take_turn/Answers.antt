@@ -1,4 +1,4 @@
-use Rattle.std.proofs.Common.{take, arith, refl, sym, ◌∙◌, [], length}
+use Rattle.std.proofs.Common.{take, arith, refl, sym, ◌∙◌, []}
 use Rattle.dv_base.proofs.KnownBytesLaws.{prepend_known-nil}
 use Rattle.dv_service.proofs.Telling.{TellsFault-turn}
 use Rattle.dv_service.proofs.Turning.{at_end-of, took_nothing}

@@ -1,3 +1,4 @@
+//! A row of the table.
 use dv_value::{Id, Value};
 use sqlite_items::Items;
 

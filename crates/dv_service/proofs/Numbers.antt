@@ -1,6 +1,6 @@
 use Rattle.std.proofs.Common.{◌≡◌, ℕ, zero, suc, [], ◌∷◌, length, refl, sym, ◌∙◌, ap, arith, length-append}
 use Rattle.std.proofs.lemmas.List.{length-map}
-use Rattle.dv_store.specs.Rows.{Kept, IsNumbered, up_to}
+use Rattle.dv_service.specs.Rows.{Kept, IsNumbered, up_to}
 
 pub length-up_to : (n : ℕ) → length (up_to n) ≡ n
 length-up_to zero = refl

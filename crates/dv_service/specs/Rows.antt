@@ -1,8 +1,8 @@
--- What the store keeps: rows in the order of their ids, and the counter that ids are drawn from.
+-- What the list of rows keeps: rows in the order of their ids, and the counter that ids are drawn from.
 use Rattle.std.specs.Prelude.{◌≡◌, ℕ, zero, suc, ◌+◌, List, [], ◌∷◌, ◌++◌, map}
 use Rattle.dv_value.specs.declared.id.Id.{Id}
 use Rattle.dv_value.specs.declared.value.Value.{Value}
-use Rattle.dv_store.specs.declared.row.Row.{Row}
+use Rattle.dv_service.specs.declared.row.Row.{Row}
 
 -- the rows, and the greatest id that was drawn
 pub record Kept : Type 0 where

@@ -1,5 +1,8 @@
+//! The rows that an organisation keeps, and the counter that their ids are drawn from. The layers above may rest on
+//! this: a row that is added has the next id and stands behind the others, so that the rows stand in the order of
+//! their ids; a refused change leaves all as it was.
 ghost use Rattle.std.specs.Prelude.{◌≡◌, ◌+◌, ◌-◌, ◌^◌, ◌<◌, length, OnOk, OnErr};
-ghost use Rattle.dv_store.specs.Rows.{IsNumbered, nothing, with_row};
+ghost use Rattle.dv_service.specs.Rows.{IsNumbered, nothing, with_row};
 
 use crate::row::Row;
 use dv_value::{Id, Value};
@@ -9,27 +12,27 @@ use std::marker::Model;
 
 /// The rows of the one table, in a plain list, and the counter of their ids.
 #[derive(Debug, Drop)]
-pub struct Store {
+pub struct RowList {
     rows: Items<Row>,
     ids: u64,
 }
 
-impl Model for Store {
-    ghost use Rattle.dv_store.specs.Rows.{Kept, IsNumbered};
+impl Model for RowList {
+    ghost use Rattle.dv_service.specs.Rows.{Kept, IsNumbered};
 
     ghost Value = { Kept };
 
-    ghost view = { λ store. record { rows = store.rows; ids = store.ids } };
+    ghost view = { λ list. record { rows = list.rows; ids = list.ids } };
 
-    ghost invariant = { λ store. IsNumbered (record { rows = store.rows; ids = store.ids }) };
+    ghost invariant = { λ list. IsNumbered (record { rows = list.rows; ids = list.ids }) };
 }
 
-impl Store {
+impl RowList {
     /// No rows, and no id drawn.
-    pub fn new(alloc: Global) -> Store
+    pub fn new(alloc: Global) -> RowList
         ensures { result ≡ nothing }
     {
-        Store {
+        RowList {
             rows: Items::new(alloc),
             ids: 0,
         }
