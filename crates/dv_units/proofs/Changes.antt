@@ -1,13 +1,10 @@
 -- The rules of a chart hold on after each change.
 use Rattle.std.proofs.Common.{◌≡◌, ◌≢◌, refl, sym, ap, subst, ◌∙◌, List, [], ◌∷◌, Bool, true, false, cond, ℕ, zero, suc, ◌+◌, ◌<◌, ◌≤◌, length, arith, IsSome}
-use Rattle.std.proofs.lemmas.Bool.{true≢false, eqb-true, eqb-false, eq-eqb, ne_eqb, or_parts, and_parts}
+use Rattle.std.proofs.lemmas.Bool.{true≢false, eqb-true, eqb-false, eq-eqb, ne_eqb, or_parts}
 use Rattle.std.specs.Prelude.{◌==◌, ◌||◌, Some, None, is_some, if◌then◌else◌}
 use Rattle.std.specs.Option.{unwrap_or}
-use Rattle.std.specs.Ordering.{nat_cmp, is_eq, ordering_then}
-use Rattle.std.specs.declared.cmp.Ordering.{Ordering}
-use Rattle.std.specs.declared.cmp.Ordering.TheVariants.{Less, Equal, Greater}
+use Rattle.std.specs.Ordering.{nat_cmp}
 use Rattle.std.specs.BTreeMap.{is_at}
-use Rattle.std.specs.Cmp.{tied_then}
 use Rattle.dv_value.specs.declared.id.Id.{Id}
 use Rattle.dv_units.specs.declared.seats.User.{User}
 use Rattle.dv_units.specs.declared.seats.Team.{Team}
@@ -16,7 +13,7 @@ use Rattle.dv_units.specs.Tree.{parent_of, up, IsTree}
 use Rattle.dv_units.specs.Rules.{most_units, most_members}
 use Rattle.dv_units.specs.Index.{chart_of, IsWhole}
 use Rattle.dv_units.proofs.TreeLaws.{id-is}
-use Rattle.dv_units.proofs.ListLaws.{same-is}
+use Rattle.dv_units.proofs.ListLaws.{swapped, pair-is}
 
 -- what a list gives once a value was put at an id
 abbrev Gets : {V : Type 0} → Id → V → List (Id × V) → List (Id × V) → Type 0
@@ -245,23 +242,6 @@ module _ (units : List (Id × Id)) (users : List (Id × User)) (teams : List (Id
       }
 
 -- ---- members
-swapped : (r s : Ordering) → is_eq (ordering_then r s) ≡ is_eq (ordering_then s r)
-swapped Less Less = refl
-swapped Less Equal = refl
-swapped Less Greater = refl
-swapped Equal Less = refl
-swapped Equal Equal = refl
-swapped Equal Greater = refl
-swapped Greater Less = refl
-swapped Greater Equal = refl
-swapped Greater Greater = refl
-
--- pairs that compare equal are one
-pair-is : (a b x y : Id) → is_at (pair_cmp (a, b)) (x, y) ≡ true → (a ≡ x) × (b ≡ y)
-pair-is a b x y h =
-    let parts = and_parts (is_eq (nat_cmp a.0 x.0)) (is_eq (nat_cmp b.0 y.0)) (tied_then (nat_cmp a.0 x.0) (nat_cmp b.0 y.0) ∙ h) in
-    (id-is a x (eqb-true a.0 x.0 (sym (same-is a.0 x.0) ∙ parts.0)), id-is b y (eqb-true b.0 y.0 (sym (same-is b.0 y.0) ∙ parts.1)))
-
 module _ (units : List (Id × Id)) (users : List (Id × User)) (teams : List (Id × Team)) (members joined : List (Id × Id)) (w : IsWhole (chart_of units users teams members) joined)
     (new turned : List (Id × Id)) (team user : Id) where
   -- the two lists of members changed alike

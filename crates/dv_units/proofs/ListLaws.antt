@@ -1,5 +1,6 @@
 -- Lists of the chart: what is found first, and a pair taken out again.
-use Rattle.std.proofs.Common.{◌≡◌, refl, sym, ap, ◌∙◌, List, [], ◌∷◌, Bool, true, false, cond, arith}
+use Rattle.std.proofs.Common.{◌≡◌, refl, sym, ap, ◌∙◌, List, [], ◌∷◌, Bool, true, false, cond, arith, suc, ◌<◌, length}
+use Rattle.std.proofs.lemmas.Bool.{and_parts, eqb-true}
 use Rattle.std.proofs.lemmas.Grind.{common_steps}
 use mathlib.Core.Bool.{true≢false}
 use Rattle.std.specs.Prelude.{Option, None, Some, ℕ, ◌==◌, find, MatchOption, option_map, ◌||◌, ◌&&◌, slice_get, filter}
@@ -7,14 +8,17 @@ use Rattle.std.specs.List.{list_any}
 use Rattle.std.specs.declared.cmp.Ordering.{Ordering}
 use Rattle.std.specs.declared.cmp.Ordering.TheVariants.{Less, Equal, Greater}
 use Rattle.std.specs.declared.ops.Bound.TheVariants.{Unbounded}
-use Rattle.std.specs.Ordering.{nat_cmp, is_eq, is_lt, match_ordering}
+use Rattle.std.specs.Cmp.{tied_then}
+use Rattle.std.specs.Ordering.{nat_cmp, is_eq, is_lt, match_ordering, ordering_then}
 use Rattle.std.specs.Map.{lookup}
 use Rattle.std.specs.Set.{remove_key}
 use Rattle.std.specs.BTreeMap.{is_at}
 use Rattle.std.specs.BTreeMap.Range.{range_contains, entries_between}
 use Rattle.std.specs.BTreeSet.{insert_key}
 use Rattle.dv_value.specs.declared.id.Id.{Id}
-use Rattle.dv_units.specs.Chart.{at, pair_cmp}
+use Rattle.dv_units.specs.Chart.{at, has, pair_cmp, without_pair}
+use Rattle.dv_units.specs.Index.{AreTurned}
+use Rattle.dv_units.proofs.TreeLaws.{id-is}
 use Rattle.dv_units.specs.Cursors.{past, next_entry, is_past, is_past_pair, next_pair}
 
 -- the first that passes is the head of those that pass
@@ -75,3 +79,38 @@ next_pair-taken {B} after pairs shown rest read taken is gives = first-taken tak
     first-taken : (o : Option B) → MatchOption o ((shown ≡ []) × (rest ≡ [])) (λ x. shown ≡ read x ∷ rest) → option_map read o ≡ slice_get shown 0
     first-taken None g = sym (ap (λ l. slice_get l 0) g.0)
     first-taken (Some x) g = sym (ap (λ l. slice_get l 0) g)
+
+-- ---- pairs
+-- the order of two orders doesn't matter to equality
+pub swapped : (r s : Ordering) → is_eq (ordering_then r s) ≡ is_eq (ordering_then s r)
+swapped Less Less = refl
+swapped Less Equal = refl
+swapped Less Greater = refl
+swapped Equal Less = refl
+swapped Equal Equal = refl
+swapped Equal Greater = refl
+swapped Greater Less = refl
+swapped Greater Equal = refl
+swapped Greater Greater = refl
+
+-- pairs that compare equal are one
+pub pair-is : (a b x y : Id) → is_at (pair_cmp (a, b)) (x, y) ≡ true → (a ≡ x) × (b ≡ y)
+pair-is a b x y h =
+    let parts = and_parts (is_eq (nat_cmp a.0 x.0)) (is_eq (nat_cmp b.0 y.0)) (tied_then (nat_cmp a.0 x.0) (nat_cmp b.0 y.0) ∙ h) in
+    (id-is a x (eqb-true a.0 x.0 (sym (same-is a.0 x.0) ∙ parts.0)), id-is b y (eqb-true b.0 y.0 (sym (same-is b.0 y.0) ∙ parts.1)))
+
+-- two lists of pairs, the second turned, that are changed alike at one pair
+pub turns : (b : Bool) (first second : Id) (old turned new new_turned : List (Id × Id)) → ((q : Id × Id) → has new q ≡ cond (is_at (pair_cmp (first, second)) q) b (has old q))
+    → ((q : Id × Id) → has new_turned q ≡ cond (is_at (pair_cmp (second, first)) q) b (has turned q)) → AreTurned old turned → AreTurned new new_turned
+turns b first second old turned new new_turned has_new has_turned same x y =
+    has_turned (y, x) ∙ ap (λ (c : Bool). cond c b (has turned (y, x))) (swapped (nat_cmp second.0 y.0) (nat_cmp first.0 x.0))
+    ∙ ap (λ (c : Bool). cond (is_at (pair_cmp (first, second)) (x, y)) b c) (same x y) ∙ sym (has_new (x, y))
+
+-- a pair that was there is one less
+pub fewer : (pair : Id × Id) (pairs : List (Id × Id)) → has pairs pair ≡ true → length (without_pair pairs pair) < length pairs
+fewer pair [] there = absurd (true≢false (sym there))
+fewer pair (x ∷ xs) there =
+    elim (is_at (pair_cmp pair) x) as (λ b. (b || has xs pair) ≡ true → length (cond b xs (x ∷ without_pair xs pair)) < suc (length xs)) [
+      | true ↦ λ _h. omega arith
+      | false ↦ λ h. let less = fewer pair xs h in omega (arith, less)
+    ] there

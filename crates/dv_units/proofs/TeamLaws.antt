@@ -1,6 +1,7 @@
 -- The teams of a user: the default team and the further ones together.
 use Rattle.std.proofs.Common.{◌≡◌, ◌≢◌, refl, sym, ap, subst, ◌∙◌, List, Bool, true, false, ℕ, ◌<◌, arith, ⊎_elim}
-use Rattle.std.proofs.lemmas.Bool.{lt-ltb, and_parts, and_from, eqb-true, eq-eqb, cases_order}
+use Rattle.dv_units.proofs.TreeLaws.{id-is}
+use Rattle.std.proofs.lemmas.Bool.{true≢false, lt-ltb, and_parts, and_from, eqb-true, eq-eqb, cases_order}
 use Rattle.std.specs.Prelude.{◌==◌, ◌||◌, ◌&&◌, Option, Some, None, nat_lt}
 use Rattle.std.specs.Option.{unwrap_or, option_map_or}
 use Rattle.dv_value.specs.declared.id.Id.{Id}
@@ -14,6 +15,20 @@ use Rattle.dv_units.specs.Membership.{IsLeast, IsNextTeam, is_default_team, is_i
 least-same : (p q : Id → Bool) → ((id : Id) → p id ≡ q id) → (o : Option Id) → IsLeast p o → IsLeast q o
 least-same p q same None h = λ id. sym (same id) ∙ h id
 least-same p q same (Some id) h = (sym (same id) ∙ h.0, λ other t. h.1 other (same other ∙ t))
+
+-- the least of all is the least past nothing, where the nil id doesn't pass
+pub least-of_all : (p : Id → Bool) (o : Option Id) → p (record { 0 = 0 }) ≡ false → IsLeast (λ id. p id && nat_lt 0 id.0) o → IsLeast (λ id. p id && is_past None id) o
+least-of_all p o none least = least-same (λ id. p id && nat_lt 0 id.0) (λ id. p id && is_past None id) same o least
+  where
+    same : (id : Id) → (p id && nat_lt 0 id.0) ≡ (p id && true)
+    same id = elim (p id) as (λ b. p id ≡ b → (b && nat_lt 0 id.0) ≡ (b && true)) [
+      | false ↦ λ is. refl
+      | true ↦ λ is. lt-ltb 0 id.0 (positive is)
+    ] refl
+      where
+        positive : p id ≡ true → 0 < id.0
+        positive is = ⊎_elim (λ (e : id.0 ≡ 0). absurd (true≢false (sym is ∙ ap p (id-is id (record { 0 = 0 }) e) ∙ none)))
+            (λ rest. ⊎_elim (λ (lt : id.0 < 0). absurd (omega arith)) (λ (gt : 0 < id.0). gt) rest) (cases_order id.0 0)
 
 -- the default team of a user, where it is past
 pub default-first : (chart : Chart) (user : Id) (after : Option Id) (found : User) → at chart.users user ≡ Some found → is_past after found.unit ≡ true → IsLeast (λ team. is_default_team chart user team && is_past after team) (Some found.unit)

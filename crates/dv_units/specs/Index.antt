@@ -10,7 +10,11 @@ use Rattle.dv_units.specs.Rules.{IsChart}
 abbrev pub chart_of : List (Id × Id) → List (Id × User) → List (Id × Team) → List (Id × Id) → Chart
 chart_of units users teams members = record { units = units; users = users; teams = teams; members = members }
 
+-- the second list has the pairs of the first with their parts changed about
+abbrev pub AreTurned : List (Id × Id) → List (Id × Id) → Type 0
+AreTurned pairs turned = (first second : Id) → has turned (second, first) ≡ has pairs (first, second)
+
 -- the rules of a chart hold, and the second list has the pairs of the first, as user and team
 pub record IsWhole (chart : Chart) (joined : List (Id × Id)) : Type 0 where
   pub rules : IsChart chart
-  pub turned : (team user : Id) → has joined (user, team) ≡ has chart.members (team, user)
+  pub turned : AreTurned chart.members joined

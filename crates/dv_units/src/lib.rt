@@ -2,13 +2,14 @@
 //!
 //! The layers above may rest on this: the units form one tree; ids are distinct and not nil; each user and team belongs
 //! to a unit that is there, and each member is a user; a change is made whole, or refused by the first rule that it
-//! breaks and nothing is changed. The walks over the chart take no memory.
+//! breaks and nothing is changed. The walks over the chart take no memory. [`lists`] has the steps on lists by ids and on sets
+//! of pairs, for the crates above too.
 #![tactic(auto)]
 
 mod cursors;
 mod fault;
 mod lines;
-mod lists;
+pub mod lists;
 mod membership;
 mod seats;
 mod teams;

@@ -1,33 +1,11 @@
 //! The teams of a user, one after the other, without memory.
-ghost use Rattle.std.specs.Prelude.{◌≡◌, ℕ, Bool, ◌&&◌, ◌||◌, nat_lt, Some};
-ghost use Rattle.dv_units.specs.Chart.{has};
-ghost use Rattle.dv_units.specs.Cursors.{is_past, PairsAscend};
-ghost use Rattle.dv_units.specs.Membership.{IsLeast, IsNextTeam, IsFirstPast, is_default_team};
+ghost use Rattle.std.specs.Prelude.{◌≡◌, Bool, ◌&&◌, ◌||◌};
+ghost use Rattle.dv_units.specs.Cursors.{is_past};
+ghost use Rattle.dv_units.specs.Membership.{IsLeast, IsNextTeam, is_default_team};
 
+use crate::lists::second_past;
 use crate::units::Units;
 use dv_value::Id;
-use std::collections::BTreeSet;
-use std::ops::Bound;
-
-/// The least pair past another.
-fn pair_past(pairs: &BTreeSet<(Id, Id)>, after: (Id, Id)) -> Option<(Id, Id)>
-    ensures { IsFirstPast pairs.now.keys after result }
-{
-    pairs
-        .range((Bound::Excluded(after), Bound::Unbounded))
-        .next()
-        .copied()
-}
-
-/// The least team past an id that a user is listed with.
-fn joined_past(joined: &BTreeSet<(Id, Id)>, user: Id, from: Id) -> Option<Id>
-    ensures { IsLeast (λ team. has joined.now.keys (user, team) && nat_lt from.0 team.0) result }
-{
-    match pair_past(joined, (user, from)) {
-        Some((of, team)) => { if of.0 == user.0 { Some(team) } else { None } }
-        None => None,
-    }
-}
 
 /// The lesser of two ids that may be missing.
 fn lesser(a: Option<Id>, b: Option<Id>) -> Option<Id>
@@ -73,7 +51,7 @@ impl Units {
         ensures { IsNextTeam self.now user after result }
     {
         let from = after.unwrap_or(Id(0));
-        let listed = joined_past(&self.joined, user, from);
+        let listed = second_past(&self.joined, user, from);
         lesser(self.default_past(user, after), listed)
     }
 }

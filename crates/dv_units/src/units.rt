@@ -67,6 +67,20 @@ impl Units {
         })
     }
 
+    /// A copy of the chart.
+    pub fn copy(&self) -> Result<Units, AllocError>
+        ensures { IfOk result (λ units. units ≡ self.now) }
+    {
+        Ok(Units {
+            units: self.units.clone()?,
+            users: self.users.clone()?,
+            teams: self.teams.clone()?,
+            members: lists::copied_pairs(&self.members)?,
+            joined: lists::copied_pairs(&self.joined)?,
+            alloc: self.alloc,
+        })
+    }
+
     /// Whether an id is that of a unit.
     pub(crate) fn is_unit(&self, id: Id) -> bool
         ensures { result ≡ is_unit self.now id }

@@ -11,4 +11,4 @@ returns c =
     let s = c.self.inside in
     let from = c.unwrap_or-from.result in
     next-team c.args.self.now (chart_of s.units.entries s.users.entries s.teams.entries s.members.keys) s.joined.keys c.self.view_is c.self.invariant c.args.user from c.args.after c.lesser.result c.unwrap_or-from.ensures
-    (c.lesser.ensures (λ team. is_default_team c.args.self.now c.args.user team && is_past c.args.after team) (λ team. has s.joined.keys (c.args.user, team) && nat_lt from.0 team.0) c.default_past.ensures c.joined_past-listed.ensures)
+    (c.lesser.ensures (λ team. is_default_team c.args.self.now c.args.user team && is_past c.args.after team) (λ team. has s.joined.keys (c.args.user, team) && nat_lt from.0 team.0) c.default_past.ensures c.second_past-listed.ensures)
