@@ -10,7 +10,7 @@ use Rattle.dv_units.proofs.TreeLaws.{id-is}
 use Rattle.dv_roles.specs.declared.principal.Principal.{Principal}
 use Rattle.dv_roles.specs.declared.principal.Principal.TheVariants.{User, OwnerTeam, AccessTeam}
 use Rattle.dv_roles.specs.State.{principal_of}
-use Rattle.dv_roles.specs.Held.{holds, is_owner_team, user_holds, team_holds}
+use Rattle.dv_roles.specs.Held.{holds, is_owner_team, user_holds, team_holds, team_allows}
 use Rattle.dv_roles.specs.Seated.{is_seated}
 use Rattle.dv_roles.specs.Walk.{Query, is_left, is_ahead, is_own_ahead, IsNextDepth, IsOver, IsSame, IsGiven}
 
@@ -69,7 +69,7 @@ own-bits true true false true false apart = refl
 
 -- a user is no owner team
 user-apart : (q : Query) (depth : ℕ) → user_holds q.d q.action q.table depth q.user ≡ true → team_holds q.d q.action q.table depth q.user ≡ false
-unfolding user_holds team_holds
+unfolding user_holds team_holds team_allows
 user-apart q depth holds = by (principal_of q.d.chart q.user) refl
   where
     not_team : is_owner_team q.d.chart q.user ≡ false → team_holds q.d q.action q.table depth q.user ≡ false

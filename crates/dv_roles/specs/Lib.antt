@@ -1,7 +1,12 @@
+pub mod Gifts
+pub mod Turned
 pub mod State
 pub mod Actions
 pub mod Entries
 pub mod Messages
+pub mod Rules
+pub mod Beginning
+pub mod Seen
 pub mod Held
 pub mod Seated
 pub mod Walk

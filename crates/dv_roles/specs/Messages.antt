@@ -17,7 +17,7 @@ use Rattle.dv_units.specs.Membership.{unit_of}
 use Rattle.dv_roles.specs.declared.role.SecurityRole.{SecurityRole}
 use Rattle.dv_roles.specs.declared.principal.Principal.{Principal}
 use Rattle.dv_roles.specs.declared.principal.Principal.TheVariants.{User, OwnerTeam, AccessTeam}
-use Rattle.dv_roles.specs.State.{State, is_role, principal_of, owned_of, with_chart, with_role, with_gift, without_gift, with_admin, without_admin, without_roles}
+use Rattle.dv_roles.specs.State.{State, administrator, is_role, principal_of, owned_of, with_chart, with_role, with_gift, without_gift, without_roles}
 use Rattle.dv_roles.specs.Entries.{entries_fault, spread}
 
 -- how many roles there may be besides the System Administrator
@@ -30,7 +30,7 @@ starting definition root admin = with (adding_user (root_alone root) admin root)
   where
     with : Result Chart Refusal → Result State Refusal
     with (Err refusal) = Err refusal
-    with (Ok chart) = Ok (record { chart = chart; owned = owned_of definition; roles = []; gifts = []; admins = admin ∷ [] })
+    with (Ok chart) = Ok (record { chart = chart; owned = owned_of definition; roles = []; gifts = (admin, administrator) ∷ [] })
 
 -- a role with its entries spread out
 abbrev pub role_of : Definition → Bool → Bool → List Entry → SecurityRole
@@ -67,7 +67,7 @@ giving_role d role to = if not (is_role d role) then Err UnknownRole else for (p
     for None = Err BadPrincipal
     for (Some AccessTeam) = Err (TeamRule (codes "access"))
     for (Some OwnerTeam) = if role.0 == 0 then Err (RoleRule (codes "admin")) else Ok (with_gift d role to)
-    for (Some User) = if role.0 == 0 then Ok (with_admin d to) else Ok (with_gift d role to)
+    for (Some User) = Ok (with_gift d role to)
 
 -- whether a user is enabled; no one else is
 abbrev pub is_enabled : State → Id → Bool
@@ -75,7 +75,7 @@ is_enabled d user = option_map_or (λ found. found.enabled) (at d.chart.users us
 
 -- whether an enabled user besides this one has the System Administrator role
 abbrev pub has_other_admin : State → Id → Bool
-has_other_admin d user = list_any (λ admin. not (admin.0 == user.0) && is_enabled d admin) d.admins
+has_other_admin d user = list_any (λ gift. (gift.1.0 == 0) && (not (gift.0.0 == user.0) && is_enabled d gift.0)) d.gifts
 
 -- a role of a user or a team no longer; the last enabled user with the System Administrator role keeps it
 unfoldable pub taking_role : State → Id → Id → Result State Refusal
@@ -83,9 +83,7 @@ taking_role d role from = if not (is_role d role) then Err UnknownRole else for 
   where
     for : Option Principal → Result State Refusal
     for None = Err BadPrincipal
-    for (Some principal) =
-        if role.0 == 0 then (if has_other_admin d from then Ok (without_admin d from) else Err LastAdmin)
-        else Ok (without_gift d role from)
+    for (Some principal) = if (role.0 == 0) && not (has_other_admin d from) then Err LastAdmin else Ok (without_gift d role from)
 
 -- a user in another unit, without its roles; into its own unit nothing changes
 unfoldable pub moving : State → Id → Id → Result State Refusal

@@ -2,10 +2,10 @@
 ghost use Rattle.std.specs.Prelude.{◌≡◌, ◌≢◌, Ok, IfOk, IfErr, slice_get};
 ghost use Rattle.dv_units.specs.Chart.{is_unit};
 ghost use Rattle.dv_units.specs.Outcome.{IsFaultOf};
-ghost use Rattle.dv_roles.specs.State.{owned_of, is_role, roles_of, is_admin, principal_of};
+ghost use Rattle.dv_roles.specs.State.{owned_of, is_role, is_admin, principal_of};
 ghost use Rattle.dv_roles.specs.Messages.{starting};
 
-use crate::lists;
+use crate::gifts::Gifts;
 use crate::principal::Principal;
 use crate::role::SecurityRole;
 use dv_schema::{Definition, Table};
@@ -13,8 +13,11 @@ use dv_units::{DirFault, Units};
 use dv_value::Id;
 use sqlite_items::Items;
 use std::alloc::{AllocError, Global};
-use std::collections::{BTreeMap, BTreeSet};
+use std::collections::BTreeMap;
 use std::marker::Model;
+
+/// The id of the System Administrator role.
+pub(crate) const ADMINISTRATOR: Id = Id(0);
 
 /// The organisation chart, security roles, and who has them.
 #[derive(Drop)]
@@ -22,11 +25,9 @@ pub struct Directory {
     pub(crate) units: Units,
     /// For each table whether users own its rows.
     pub(crate) owned: Items<bool>,
+    /// The roles besides the System Administrator.
     pub(crate) roles: BTreeMap<Id, SecurityRole>,
-    /// The roles of each user and team, the System Administrator left out.
-    pub(crate) gifts: BTreeMap<Id, Items<Id>>,
-    /// The users who have the System Administrator role.
-    pub(crate) admins: BTreeSet<Id>,
+    pub(crate) gifts: Gifts,
     pub(crate) alloc: Global,
 }
 
@@ -35,7 +36,7 @@ impl Model for Directory {
 
     ghost Value = { State };
 
-    ghost view = { λ s. record { chart = s.units; owned = s.owned; roles = s.roles.entries; gifts = s.gifts.entries; admins = s.admins.keys } };
+    ghost view = { λ s. record { chart = s.units; owned = s.owned; roles = s.roles.entries; gifts = s.gifts } };
 }
 
 /// For each table whether users own its rows.
@@ -69,14 +70,13 @@ impl Directory {
         let mut units = Units::begin(alloc, root)?;
         units.add_user(admin, root)?;
         let owned = owned_of(alloc, definition)?;
-        let mut admins = BTreeSet::new(alloc);
-        lists::add(&mut admins, admin)?;
+        let mut gifts = Gifts::new(alloc);
+        gifts.add(admin, ADMINISTRATOR)?;
         Ok(Directory {
             units,
             owned,
             roles: BTreeMap::new(alloc),
-            gifts: BTreeMap::new(alloc),
-            admins,
+            gifts,
             alloc,
         })
     }
@@ -117,21 +117,11 @@ impl Directory {
         role.0 == 0 || self.roles.contains_key(&role)
     }
 
-    /// The roles that a user or a team was given, the System Administrator left out.
-    pub(crate) fn roles_of(&self, principal: Id) -> &[Id]
-        ensures { result.now ≡ roles_of self.now principal }
-    {
-        match self.gifts.get(&principal) {
-            Some(roles) => roles.as_slice(),
-            None => &[],
-        }
-    }
-
     /// Whether a user has the System Administrator role.
     pub(crate) fn is_admin(&self, user: Id) -> bool
         ensures { result ≡ is_admin self.now user }
     {
-        self.admins.contains(&user)
+        self.gifts.has(user, ADMINISTRATOR)
     }
 
     /// Whom an id names.

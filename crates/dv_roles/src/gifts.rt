@@ -1,143 +1,112 @@
-//! Roles given to users and teams, and taken from them.
-ghost use Rattle.std.specs.Prelude.{◌≡◌, ◌++◌, ◌∷◌, [], ◌==◌, not, filter, Ok, IfOk, OnOk, OnErr, IfErr};
-ghost use Rattle.dv_units.specs.Outcome.{IsFaultOf};
-ghost use Rattle.dv_roles.specs.State.{with_gift, without_gift};
-ghost use Rattle.dv_roles.specs.Messages.{giving_role, taking_role, is_enabled, has_other_admin};
+//! Who has which roles: pairs of a user or a team and a role.
+ghost use Rattle.std.specs.Prelude.{◌≡◌, ◌&&◌, OnOk, OnErr, IfOk, []};
+ghost use Rattle.dv_units.specs.Chart.{has, without_pair};
+ghost use Rattle.dv_units.specs.Cursors.{is_past, next_pair, PairsAscend};
+ghost use Rattle.dv_units.specs.Membership.{IsLeast};
+ghost use Rattle.dv_roles.specs.Gifts.{with_gift, without_gifts_of};
 
-use crate::directory::Directory;
-use crate::lists;
-use crate::principal::Principal;
-use dv_refusal::Refusal;
-use dv_units::DirFault;
-use dv_value::{Id, Text};
-use sqlite_items::Items;
+use dv_units::lists;
+use dv_value::Id;
 use std::alloc::{AllocError, Global};
+use std::collections::BTreeSet;
+use std::marker::Model;
 
-/// A list of ids with one more.
-fn with_id(alloc: Global, ids: &[Id], id: Id) -> Result<Items<Id>, AllocError>
-    ensures { IfOk result (λ list. list ≡ ids.now ++ id ∷ []) }
-{
-    let mut list = Items::from_slice(alloc, ids)?;
-    list.push(id)?;
-    Ok(list)
+/// Pairs of a user or a team and a role that it has, in ascending order.
+#[derive(Drop)]
+pub(crate) struct Gifts {
+    pairs: BTreeSet<(Id, Id)>,
+    /// The same pairs as role and user or team.
+    turned: BTreeSet<(Id, Id)>,
 }
 
-/// A list of ids without one.
-fn without_id(alloc: Global, ids: &[Id], id: Id) -> Result<Items<Id>, AllocError>
-    ensures { IfOk result (λ list. list ≡ filter (λ x. not (x.0 == id.0)) ids.now) }
-{
-    let mut list = Items::new(alloc);
-    for x in ids {
-        if x.0 != id.0 {
-            list.push(*x)?;
-        }
-    }
-    Ok(list)
+impl Model for Gifts {
+    ghost use Rattle.std.specs.Prelude.{List};
+    ghost use Rattle.dv_value.specs.declared.id.Id as id;
+
+    ghost Value = { List (id.Id × id.Id) };
+
+    ghost use Rattle.dv_roles.specs.Turned.{AreTurned};
+
+    ghost view = { λ s. s.pairs.keys };
+
+    ghost invariant = { λ s. AreTurned s.pairs.keys s.turned.keys };
 }
 
-impl Directory {
-    /// Gives a role that isn't the System Administrator.
-    fn add_gift(&mut self, role: Id, to: Id) -> Result<(), AllocError>
-        ensures ok { OnOk result (self.new ≡ with_gift self.old role to) }
-        ensures kept { OnErr result (self.new ≡ self.old) }
+impl Gifts {
+    /// No roles of anyone.
+    pub(crate) fn new(alloc: Global) -> Gifts
+        ensures { result ≡ [] }
     {
-        let roles = self.roles_of(to);
-        if lists::is_in(roles, role) {
+        Gifts {
+            pairs: BTreeSet::new(alloc),
+            turned: BTreeSet::new(alloc),
+        }
+    }
+
+    /// Whether a user or a team has a role.
+    pub(crate) fn has(&self, principal: Id, role: Id) -> bool
+        ensures { result ≡ has self.now (principal, role) }
+    {
+        self.pairs.contains(&(principal, role))
+    }
+
+    /// Gives a role. One that is there already changes nothing.
+    pub(crate) fn add(&mut self, principal: Id, role: Id) -> Result<(), AllocError>
+        ensures ok { OnOk result (self.new ≡ with_gift self.old principal role) }
+        ensures err { OnErr result (self.new ≡ self.old) }
+    {
+        if self.has(principal, role) {
             return Ok(());
         }
-        let list = with_id(self.alloc, roles, role)?;
-        lists::put(&mut self.gifts, to, list)?;
+        lists::add_pair(&mut self.pairs, &mut self.turned, principal, role)?;
         Ok(())
     }
 
-    /// Takes a role that isn't the System Administrator.
-    fn take_gift(&mut self, role: Id, from: Id) -> Result<(), AllocError>
-        ensures ok { OnOk result (self.new ≡ without_gift self.old role from) }
-        ensures kept { OnErr result (self.new ≡ self.old) }
+    /// Takes a role.
+    pub(crate) fn remove(&mut self, principal: Id, role: Id)
+        ensures { self.new ≡ without_pair self.old (principal, role) }
     {
-        let roles = self.roles_of(from);
-        if !lists::is_in(roles, role) {
-            return Ok(());
-        }
-        let list = without_id(self.alloc, roles, role)?;
-        lists::put(&mut self.gifts, from, list)?;
-        Ok(())
+        lists::take_pair(&mut self.pairs, &mut self.turned, principal, role);
     }
 
-    /// Gives a role to a user or a team. One that it has already changes nothing.
-    #[tactic(auto, unfolding(crate::specs::Messages::giving_role))]
-    pub fn give_role(&mut self, role: Id, to: Id) -> Result<(), DirFault>
-        ensures ok { OnOk result (giving_role self.old role to ≡ Ok self.new) }
-        ensures err { IfErr result (IsFaultOf (giving_role self.old role to)) }
-        ensures kept { OnErr result (self.new ≡ self.old) }
+    /// Takes all roles of a user or a team.
+    pub(crate) fn remove_all(&mut self, principal: Id)
+        ensures { self.new ≡ without_gifts_of self.old principal }
     {
-        if !self.is_role(role) {
-            return Err(DirFault::Refused(Refusal::UnknownRole));
-        }
-        match self.principal(to) {
-            None => return Err(DirFault::Refused(Refusal::BadPrincipal)),
-            Some(Principal::AccessTeam) => {
-                let why = Text::from_str(self.alloc, "access")?;
-                return Err(DirFault::Refused(Refusal::TeamRule { why }));
-            }
-            Some(Principal::OwnerTeam) => {
-                if role.0 == 0 {
-                    let why = Text::from_str(self.alloc, "admin")?;
-                    return Err(DirFault::Refused(Refusal::RoleRule { why }));
-                }
-                self.add_gift(role, to)?;
-            }
-            Some(Principal::User) => {
-                if role.0 == 0 {
-                    lists::add(&mut self.admins, to)?;
-                } else {
-                    self.add_gift(role, to)?;
-                }
-            }
-        }
-        Ok(())
-    }
-
-    /// Whether a user is enabled; false where no user has the id.
-    fn is_enabled(&self, user: Id) -> bool
-        ensures { result ≡ is_enabled self.now user }
-    {
-        match self.units.enabled(user) {
-            Some(enabled) => enabled,
-            None => false,
+        'roles: while let Some(role) = self.role_after(principal, None) {
+            lists::take_pair(&mut self.pairs, &mut self.turned, principal, role);
         }
     }
 
-    /// Whether an enabled user besides this one has the System Administrator role.
-    pub(crate) fn has_other_admin(&self, user: Id) -> bool
-        ensures { result ≡ has_other_admin self.now user }
+    /// The least role past an id that a user or a team has, or the least of all.
+    pub(crate) fn role_after(&self, principal: Id, after: Option<Id>) -> Option<Id>
+        ensures { IsLeast (λ role. has self.now (principal, role) && is_past after role) result }
     {
-        self.admins
-            .iter()
-            .any(|admin| admin.0 != user.0 && self.is_enabled(*admin))
+        lists::second_after(&self.pairs, principal, after)
     }
 
-    /// Takes a role from a user or a team. One that it doesn't have changes nothing.
-    #[tactic(auto, unfolding(crate::specs::Messages::taking_role))]
-    pub fn take_role(&mut self, role: Id, from: Id) -> Result<(), DirFault>
-        ensures ok { OnOk result (taking_role self.old role from ≡ Ok self.new) }
-        ensures err { IfErr result (IsFaultOf (taking_role self.old role from)) }
-        ensures kept { OnErr result (self.new ≡ self.old) }
+    /// The least id past another of those that have a role, or the least of all.
+    pub(crate) fn holder_after(&self, role: Id, after: Option<Id>) -> Option<Id>
+        ensures { IsLeast (λ id. has self.now (id, role) && is_past after id) result }
     {
-        if !self.is_role(role) {
-            return Err(DirFault::Refused(Refusal::UnknownRole));
-        }
-        if self.principal(from).is_none() {
-            return Err(DirFault::Refused(Refusal::BadPrincipal));
-        }
-        if role.0 == 0 {
-            if !self.has_other_admin(from) {
-                return Err(DirFault::Refused(Refusal::LastAdmin));
-            }
-            self.admins.remove(&from);
-            return Ok(());
-        }
-        self.take_gift(role, from)?;
-        Ok(())
+        lists::second_after(&self.turned, role, after)
+    }
+
+    /// The first pair past another, or the first of all.
+    pub(crate) fn pair_after(&self, after: Option<(Id, Id)>) -> Option<(Id, Id)>
+        ensures next { result ≡ next_pair after self.now }
+        ensures ascends { PairsAscend self.now }
+    {
+        lists::next_pair(&self.pairs, after)
+    }
+
+    /// A copy.
+    pub(crate) fn copy(&self) -> Result<Gifts, AllocError>
+        ensures { IfOk result (λ gifts. gifts ≡ self.now) }
+    {
+        Ok(Gifts {
+            pairs: lists::copied_pairs(&self.pairs)?,
+            turned: lists::copied_pairs(&self.turned)?,
+        })
     }
 }

@@ -1,9 +1,10 @@
 //! What users and teams hold by their roles.
-ghost use Rattle.std.specs.Prelude.{◌≡◌};
+ghost use Rattle.std.specs.Prelude.{◌≡◌, ◌&&◌};
 ghost use Rattle.std.specs.List.{list_any};
-ghost use Rattle.dv_units.specs.Membership.{IsNextTeam};
-ghost use Rattle.dv_roles.specs.State.{roles_of};
-ghost use Rattle.dv_roles.specs.Held.{is_entry, gives, passes_on, admin_has, is_owner_team, is_user, team_passes, has_from_team, holds_itself, user_holds, team_holds, manages};
+ghost use Rattle.dv_units.specs.Chart.{has};
+ghost use Rattle.dv_units.specs.Cursors.{is_past};
+ghost use Rattle.dv_units.specs.Membership.{IsLeast, IsNextTeam};
+ghost use Rattle.dv_roles.specs.Held.{is_entry, allows, any_allows, admin_has, is_owner_team, is_user, team_allows, has_from_team, holds_itself, user_holds, team_holds, manages};
 
 use crate::actions::{has_action, same_action};
 use crate::directory::Directory;
@@ -12,10 +13,12 @@ use crate::role::RoleEntry;
 use dv_schema::Action;
 use dv_value::Id;
 
-/// What a role may pass on through a team to each of its members.
+/// What a role may allow.
 #[derive(Clone, Copy, Debug)]
 pub(crate) enum Asked {
-    /// The management of the directory.
+    /// An action on a table at a depth.
+    Privilege(Action, u16, u8),
+    /// The management of the directory, which a team's role gives to each of its members too.
     Management,
     /// An action on a table at depth 0, as the member's own, by a direct role.
     Own(Action, u16),
@@ -31,31 +34,42 @@ fn has_entry(entries: &[RoleEntry], action: Action, table: u16, depth: u8) -> bo
 }
 
 impl Directory {
-    /// Whether a role of an id allows an action on a table at a depth.
-    #[tactic(auto, unfolding(crate::specs::Held::gives))]
-    fn gives(&self, action: Action, table: u16, depth: u8, role: Id) -> bool
-        ensures { result ≡ gives self.now action table depth role }
-    {
-        match self.roles.get(&role) {
-            Some(found) => has_entry(found.entries.as_slice(), action, table, depth),
-            None => false,
-        }
-    }
-
-    /// Whether a role of an id passes something on.
-    #[tactic(auto, unfolding(crate::specs::Held::passes_on))]
-    fn passes_on(&self, asked: Asked, role: Id) -> bool
-        ensures { result ≡ passes_on self.now asked role }
+    /// Whether a role of an id allows what is asked.
+    #[tactic(auto, unfolding(crate::specs::Held::allows))]
+    fn allows(&self, asked: Asked, role: Id) -> bool
+        ensures { result ≡ allows self.now asked role }
     {
         let Some(found) = self.roles.get(&role) else {
             return false;
         };
+        let entries = found.entries.as_slice();
         match asked {
+            Asked::Privilege(action, table, depth) => has_entry(entries, action, table, depth),
             Asked::Management => found.manage,
-            Asked::Own(action, table) => {
-                found.direct && has_entry(found.entries.as_slice(), action, table, 0)
-            }
+            Asked::Own(action, table) => found.direct && has_entry(entries, action, table, 0),
         }
+    }
+
+    /// The first role past an id that a user or a team has, or the first of all.
+    fn next_role(&self, principal: Id, after: Option<Id>) -> Option<Id>
+        ensures { IsLeast (λ role. has self.now.gifts (principal, role) && is_past after role)
+            result }
+    {
+        self.gifts.role_after(principal, after)
+    }
+
+    /// Whether one of the roles of a user or a team allows what is asked.
+    fn any_allows(&self, asked: Asked, principal: Id) -> bool
+        ensures { result ≡ any_allows self.now asked principal }
+    {
+        let mut after = None;
+        'roles: while let Some(role) = self.next_role(principal, after) {
+            if self.allows(asked, role) {
+                return true;
+            }
+            after = Some(role);
+        }
+        false
     }
 
     /// Whether the System Administrator has an action of a table at a depth.
@@ -92,31 +106,12 @@ impl Directory {
         }
     }
 
-    /// Whether one of the roles of a user or a team allows an action on a table at a depth.
-    fn any_gives(&self, action: Action, table: u16, depth: u8, principal: Id) -> bool
-        ensures { result ≡ list_any (gives self.now action table depth)
-            (roles_of self.now principal) }
+    /// Whether an owner team has a role that allows what is asked.
+    #[tactic(auto, unfolding(crate::specs::Held::team_allows))]
+    fn team_allows(&self, asked: Asked, team: Id) -> bool
+        ensures { result ≡ team_allows self.now asked team }
     {
-        self.roles_of(principal)
-            .iter()
-            .any(|role| self.gives(action, table, depth, *role))
-    }
-
-    /// Whether one of the roles of a user or a team passes something on.
-    fn any_passes(&self, asked: Asked, principal: Id) -> bool
-        ensures { result ≡ list_any (passes_on self.now asked) (roles_of self.now principal) }
-    {
-        self.roles_of(principal)
-            .iter()
-            .any(|role| self.passes_on(asked, *role))
-    }
-
-    /// Whether an owner team has a role that passes something on.
-    #[tactic(auto, unfolding(crate::specs::Held::team_passes))]
-    fn team_passes(&self, asked: Asked, team: Id) -> bool
-        ensures { result ≡ team_passes self.now asked team }
-    {
-        self.is_owner_team(team) && self.any_passes(asked, team)
+        self.is_owner_team(team) && self.any_allows(asked, team)
     }
 
     /// The first of a user's teams past an id, or the first of all.
@@ -126,13 +121,13 @@ impl Directory {
         self.units.team_after(user, after)
     }
 
-    /// Whether one of a user's teams has a role that passes something on.
+    /// Whether one of a user's teams has a role that allows what is asked.
     fn has_from_team(&self, asked: Asked, user: Id) -> bool
         ensures { result ≡ has_from_team self.now asked user }
     {
         let mut after = None;
         'teams: while let Some(team) = self.team_after(user, after) {
-            if self.team_passes(asked, team) {
+            if self.team_allows(asked, team) {
                 return true;
             }
             after = Some(team);
@@ -144,7 +139,7 @@ impl Directory {
     fn holds_itself(&self, action: Action, table: u16, depth: u8, user: Id) -> bool
         ensures { result ≡ holds_itself self.now action table depth user }
     {
-        if self.any_gives(action, table, depth, user) {
+        if self.any_allows(Asked::Privilege(action, table, depth), user) {
             return true;
         }
         self.is_admin(user) && self.admin_has(action, table, depth)
@@ -169,7 +164,7 @@ impl Directory {
     pub(crate) fn team_holds(&self, action: Action, table: u16, depth: u8, team: Id) -> bool
         ensures { result ≡ team_holds self.now action table depth team }
     {
-        self.is_owner_team(team) && self.any_gives(action, table, depth, team)
+        self.team_allows(Asked::Privilege(action, table, depth), team)
     }
 
     /// Whether a user may manage the directory.
@@ -183,7 +178,7 @@ impl Directory {
         if self.is_admin(user) {
             return true;
         }
-        if self.any_passes(Asked::Management, user) {
+        if self.any_allows(Asked::Management, user) {
             return true;
         }
         self.has_from_team(Asked::Management, user)

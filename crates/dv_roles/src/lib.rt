@@ -5,11 +5,15 @@
 #![tactic(auto)]
 
 mod actions;
+mod beginning;
+mod copies;
+mod cursors;
 mod directory;
 mod entries;
 mod gifts;
+mod giving;
 mod held;
-mod lists;
+pub mod laws;
 mod principal;
 mod reach;
 mod role;

@@ -1,5 +1,5 @@
 //! A walk over what a user holds, which takes no memory.
-ghost use Rattle.std.specs.Prelude.{◌≡◌, IsTrue};
+ghost use Rattle.std.specs.Prelude.{◌≡◌, IsTrue, IfNone};
 ghost use Rattle.dv_roles.specs.Seated.{is_seated};
 
 use crate::directory::Directory;
@@ -21,11 +21,11 @@ pub struct Reach<'a> {
 }
 
 impl<'a> Reach<'a> {
-    ghost use Rattle.std.specs.Prelude.{ℕ, Some, None};
+    ghost use Rattle.std.specs.Prelude.{ℕ, Some, None, IfSome};
     ghost use Rattle.dv_value.specs.declared.id.Id as id;
     ghost use Rattle.dv_roles.specs.Held.{holds};
     ghost use Rattle.dv_roles.specs.Walk.{is_held};
-    ghost use Rattle.dv_roles.specs.Reaches.{query_of, has_left, IsNextOf, Gives, GoesOn};
+    ghost use Rattle.dv_roles.specs.Reaches.{query_of, has_left, IsNextOf, IsNearer, IsSpent, Gives, GoesOn};
 
     /// A walk over all that a user holds.
     fn new(directory: &'a Directory, user: Id, action: Action, table: u16) -> Reach<'a>
@@ -73,7 +73,8 @@ impl<'a> Reach<'a> {
     /// Gives the next depth of the present seat.
     fn give(&mut self, depth: u8) -> (u8, Id)
         requires { IsNextOf self.old (Some depth) }
-        ensures { Gives self.old self.new (Some result) }
+        ensures gives { Gives self.old self.new (Some result) }
+        ensures nearer { IsNearer self.new self.old }
     {
         let seat = self.team.unwrap_or(self.user);
         self.depth = depth + 1;
@@ -83,7 +84,8 @@ impl<'a> Reach<'a> {
     /// Goes on to the next team, where nothing is left at the present seat.
     fn go_on(&mut self) -> bool
         requires { IsNextOf self.old None }
-        ensures { GoesOn self.old self.new result }
+        ensures goes_on { GoesOn self.old self.new result }
+        ensures nearer { IsTrue result → IsNearer self.new self.old }
     {
         match self.directory.team_after(self.user, self.team) {
             Some(team) => {
@@ -95,9 +97,12 @@ impl<'a> Reach<'a> {
         }
     }
 
-    /// The next pair, each once; none where all were given.
+    /// The next pair, each once; none where all were given, and then none again.
     pub fn next(&mut self) -> Option<(u8, Id)>
-        ensures { Gives self.old self.new result }
+        ensures gives { Gives self.old self.new result }
+        ensures nearer { IfSome result (λ _. IsNearer self.new self.old) }
+        ensures ends { IfNone result (IsSpent self.new) }
+        ensures spent { IsSpent self.old → result ≡ None }
     {
         'seats: loop {
             if let Some(depth) = self.next_depth() {

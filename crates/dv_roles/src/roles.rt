@@ -7,12 +7,11 @@ ghost use Rattle.dv_roles.specs.Messages.{role_of, adding_role, setting_privileg
 
 use crate::directory::Directory;
 use crate::entries::check_entries;
-use crate::lists;
 use crate::role::SecurityRole;
 use crate::spreading::spread;
 use dv_refusal::{Refusal, What};
 use dv_schema::{Definition, Entry, Role};
-use dv_units::DirFault;
+use dv_units::{DirFault, lists};
 use dv_value::{Id, Text};
 use std::alloc::{AllocError, Global};
 
@@ -44,6 +43,7 @@ impl Directory {
         ensures ok { OnOk result (adding_role self.old definition.now role.now ≡ Ok self.new) }
         ensures err { IfErr result (IsFaultOf (adding_role self.old definition.now role.now)) }
         ensures kept { OnErr result (self.new ≡ self.old) }
+        ensures owned { self.new.owned ≡ self.old.owned }
     {
         if self.is_role(role.id) {
             return Err(DirFault::Refused(Refusal::DirectoryIdTaken));
@@ -82,6 +82,7 @@ impl Directory {
         ensures err { IfErr result
             (IsFaultOf (setting_privileges self.old definition.now role manage entries.now)) }
         ensures kept { OnErr result (self.new ≡ self.old) }
+        ensures owned { self.new.owned ≡ self.old.owned }
     {
         if role.0 == 0 {
             let why = Text::from_str(self.alloc, "admin")?;

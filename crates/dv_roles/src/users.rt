@@ -3,7 +3,6 @@ ghost use Rattle.std.specs.Prelude.{◌≡◌, ◌==◌, Ok, OnOk, OnErr, IfErr,
 ghost use Rattle.std.specs.Option.{option_map_or};
 ghost use Rattle.dv_units.specs.Membership.{unit_of};
 ghost use Rattle.dv_units.specs.Outcome.{IsFaultOf};
-ghost use Rattle.dv_roles.specs.State.{without_roles};
 ghost use Rattle.dv_roles.specs.Messages.{moving, enabling};
 
 use crate::directory::Directory;
@@ -12,14 +11,6 @@ use dv_units::DirFault;
 use dv_value::Id;
 
 impl Directory {
-    /// Takes all roles of a user.
-    fn take_roles(&mut self, user: Id)
-        ensures { self.new ≡ without_roles self.old user }
-    {
-        self.gifts.remove(&user);
-        self.admins.remove(&user);
-    }
-
     /// Whether a user or a team belongs to a unit.
     fn is_of_unit(&self, principal: Id, unit: Id) -> bool
         ensures { result ≡ option_map_or (λ own. own.0 == unit.0)
@@ -37,6 +28,7 @@ impl Directory {
         ensures ok { OnOk result (moving self.old user unit ≡ Ok self.new) }
         ensures err { IfErr result (IsFaultOf (moving self.old user unit)) }
         ensures kept { OnErr result (self.new ≡ self.old) }
+        ensures owned { self.new.owned ≡ self.old.owned }
     {
         if self.units.enabled(user).is_none() {
             return Err(DirFault::Refused(Refusal::UnknownUser));
@@ -51,7 +43,7 @@ impl Directory {
             return Err(DirFault::Refused(Refusal::LastAdmin));
         }
         self.units.move_user(user, unit)?;
-        self.take_roles(user);
+        self.gifts.remove_all(user);
         Ok(())
     }
 
@@ -61,6 +53,7 @@ impl Directory {
         ensures ok { OnOk result (enabling self.old user enabled ≡ Ok self.new) }
         ensures err { IfErr result (IsFaultOf (enabling self.old user enabled)) }
         ensures kept { OnErr result (self.new ≡ self.old) }
+        ensures owned { self.new.owned ≡ self.old.owned }
     {
         if self.units.enabled(user).is_none() {
             return Err(DirFault::Refused(Refusal::UnknownUser));

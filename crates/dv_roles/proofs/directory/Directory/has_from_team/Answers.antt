@@ -1,15 +1,17 @@
 use Rattle.std.proofs.Common.{sym, ◌∙◌}
-use Rattle.std.proofs.lemmas.Bool.{and_parts}
-use Rattle.dv_units.specs.Cursors.{is_past}
 use Rattle.dv_units.specs.Membership.{is_in_team}
-use Rattle.dv_roles.proofs.HeldLaws.{has-some, has-none}
+use Rattle.dv_roles.specs.Held.{team_allows}
+use Rattle.dv_roles.proofs.GiftLaws.{has_from_team-some, has_from_team-none}
+use Rattle.dv_roles.proofs.Least.{least-there, none-there}
 use Rattle.dv_roles.proofs.directory.Directory.has_from_team.Goals as goal
 
-pub returns-then-team_passes : goal.returns-then-team_passes
-returns-then-team_passes c =
-    sym (has-some c.args.self.now c.args.asked c.args.user c.in-Some.team
-    (and_parts (is_in_team c.args.self.now.chart c.args.user c.in-Some.team) (is_past c.teams.after c.in-Some.team) c.in-Some.ensures.0).0
-    (sym c.team_passes.ensures ∙ c.if-team_passes.true))
+pub returns-then-team_allows : goal.returns-then-team_allows
+returns-then-team_allows c =
+    let d = c.args.self.now in
+    let team = c.in-Some.team in
+    sym (has_from_team-some d c.args.asked c.args.user team (least-there (is_in_team d.chart c.args.user) c.teams.after team c.in-Some.ensures) (sym c.team_allows.ensures ∙ c.if-team_allows.true))
 
 pub returns : goal.returns
-returns c = sym (has-none c.args.self.now c.args.asked c.args.user c.teams.after c.teams.invariant c.in_default.ensures)
+returns c =
+    let d = c.args.self.now in
+    sym (has_from_team-none d c.args.asked c.args.user (none-there (is_in_team d.chart c.args.user) (team_allows d c.args.asked) c.teams.after c.teams.invariant c.in_default.ensures))
