@@ -1,0 +1,8 @@
+use Rattle.dv_store.proofs.NextBy.{next-dirty, no-dirty}
+use Rattle.dv_store.proofs.cells.Cells.next_dirty.Goals as goal
+
+pub returns-in-Some : goal.returns-in-Some
+returns-in-Some c = rw (c.dirty_of.ensures, ← c.self.view_is) (next-dirty c.self.inside.shape c.self.inside.shelf.present c.self.invariant.present c.args.after c.in-Some.key.now c.in-Some.field-0-1.now (rw c.from_dirty.ensures at c.in-Some.ensures.entry))
+
+pub returns-in-None : goal.returns-in-None
+returns-in-None c = rw (← c.self.view_is) (no-dirty c.self.inside.shape c.self.inside.shelf.present c.self.invariant.present c.args.after (rw c.from_dirty.ensures at c.in-None.ensures.entry))

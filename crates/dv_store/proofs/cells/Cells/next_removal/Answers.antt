@@ -1,0 +1,8 @@
+use Rattle.dv_store.proofs.Nexts.{next-removals, no-removals}
+use Rattle.dv_store.proofs.cells.Cells.next_removal.Goals as goal
+
+pub returns-in-Some : goal.returns-in-Some
+returns-in-Some c = rw (c.removal_of.ensures, ← c.self.view_is) (next-removals c.self.inside.shape c.self.inside.shelf.present c.self.invariant.present c.args.table c.args.after c.in-Some.key.now c.in-Some.field-0-1.now (rw c.from_removal.ensures at c.in-Some.ensures.entry))
+
+pub returns-in-None : goal.returns-in-None
+returns-in-None c = rw (← c.self.view_is) (no-removals c.self.inside.shape c.self.inside.shelf.present c.self.invariant.present c.args.table c.args.after (rw c.from_removal.ensures at c.in-None.ensures.entry))
