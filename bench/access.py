@@ -14,8 +14,6 @@ from built import build
 MAIN = """//! Makes a large organisation, and prints how many microseconds each phase took.
 #![tactic(auto)]
 
-ghost use Rattle.std.specs.Prelude.{◌≡◌};
-ghost use Rattle.dv_store.specs.Shapes.{shape_of};
 
 use anyhow::Result;
 use dv_access::{check, permitted};
@@ -39,37 +37,20 @@ const ROWS: u64 = 200_000;
 const CHECKS: u64 = 200_000;
 const LISTS: u64 = 100;
 
-// Rows and grants of a definition.
-#[derive(Drop)]
-struct Kept<'a> {
-    definition: &'a Definition,
-    store: Store,
-    ghost shaped: { store.present.shape ≡ shape_of definition.now },
+fn put(store: &mut Store, id: Id, row: Row) -> Result<(), AllocError> {
+    match store.put_row(0, id, row) {
+        Ok(()) => Ok(()),
+        Err(_) => Err(AllocError),
+    }
 }
 
-impl<'a> Kept<'a> {
-    fn put(&mut self, id: Id, row: Row) -> Result<(), AllocError> {
-        match self.store.put_row(0, id, row) {
-            Ok(()) => Ok(()),
-            Err(_) => Err(AllocError),
-        }
+fn share(store: &mut Store, id: Id, principal: Id) -> Result<(), AllocError> {
+    if !store.is_owned(0) || store.row(0, id).is_none() {
+        return Err(AllocError);
     }
-
-    fn is_user_owned(&self, table: u16) -> bool {
-        match self.definition.tables().get(usize::from(table)) {
-            Some(table) => table.user_owned,
-            None => false,
-        }
-    }
-
-    fn share(&mut self, id: Id, principal: Id) -> Result<(), AllocError> {
-        if !self.is_user_owned(0) || self.store.row(0, id).is_none() {
-            return Err(AllocError);
-        }
-        match self.store.set_grant(0, id, principal, 1, 0) {
-            Ok(()) => Ok(()),
-            Err(_) => Err(AllocError),
-        }
+    match store.set_grant(0, id, principal, 1, 0) {
+        Ok(()) => Ok(()),
+        Err(_) => Err(AllocError),
     }
 }
 
@@ -171,15 +152,15 @@ fn row_of(alloc: Global, owner: Id) -> Result<Row, AllocError> {
 }
 
 // Each fifth row is a team's, and each second one is shared with a team.
-fn make_rows(alloc: Global, kept: &mut Kept<'_>) -> Result<(), AllocError> {
+fn make_rows(alloc: Global, store: &mut Store) -> Result<(), AllocError> {
     for number in 0..ROWS {
         let owner = if number % 5 == 0 { team_at(number / 5) } else { user_at(number) };
-        kept.put(row_at(number), row_of(alloc, owner)?)?;
+        put(store, row_at(number), row_of(alloc, owner)?)?;
         if number % 2 == 0 {
-            kept.share(row_at(number), team_at(number.wrapping_mul(13)))?;
+            share(store, row_at(number), team_at(number.wrapping_mul(13)))?;
         }
     }
-    kept.store.forget();
+    store.forget();
     Ok(())
 }
 
@@ -269,14 +250,10 @@ fn main(rt: HostRuntime) -> Result<()> {
     };
     let since = Instant::now(&rt)?;
     make(rt.alloc(), &definition, &mut directory)?;
-    let store = Store::new(rt.alloc(), &definition)?;
-    let mut kept = Kept {
-        definition: &definition,
-        store,
-    };
-    make_rows(rt.alloc(), &mut kept)?;
+    let mut store = Store::new(rt.alloc(), &definition)?;
+    make_rows(rt.alloc(), &mut store)?;
     tell(&rt, "making", since)?;
-    measure(&rt, &directory, &kept.store)
+    measure(&rt, &directory, &store)
 }
 """
 
