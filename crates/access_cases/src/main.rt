@@ -11,7 +11,7 @@ use asking::Access;
 use case_notation::{Fault, Tally, run};
 
 // The files of cases. Each begins with what it shows.
-const FILES: [&str; 5] = ["worked", "depths", "tables", "shares", "users"];
+const FILES: [&str; 6] = ["worked", "depths", "tables", "shares", "users", "worlds"];
 
 fn main(rt: HostRuntime) -> Result<(), Fault> {
     let mut tally = Tally::new();
