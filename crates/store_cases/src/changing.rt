@@ -1,6 +1,7 @@
 //! The lines that change a store.
 use crate::rows::{row_of, value_of};
 use crate::scene::{Scene, column_of, id_of};
+use crate::sharing::{Shared, reshare, share, unshare};
 use case_notation::Fault;
 use dv_refusal::What;
 use dv_store::{Row, RowKey, StoreFault};
@@ -17,6 +18,39 @@ pub fn change(scene: &mut Scene<'_>, words: &[&str]) -> Result<Option<What>, Fau
             grant(scene, table, id, id_of(principal)?, rights)
         }
         ["grants", table, id, first, count] => grants(scene, table, id, first, count),
+        ["share", table, id, principal, rest @ ..] => {
+            share(
+                scene,
+                Shared {
+                    table,
+                    id,
+                    principal,
+                    rest,
+                },
+            )
+        }
+        ["unshare", table, id, principal, rest @ ..] => {
+            unshare(
+                scene,
+                Shared {
+                    table,
+                    id,
+                    principal,
+                    rest,
+                },
+            )
+        }
+        ["reshare", table, id, principal, rest @ ..] => {
+            reshare(
+                scene,
+                Shared {
+                    table,
+                    id,
+                    principal,
+                    rest,
+                },
+            )
+        }
         ["rollup", table, id, column, value, state, date] => {
             let stamp = (state.parse::<i32>()?, date.parse::<i64>()?);
             rollup(scene, table, id, column, value, stamp)
@@ -33,8 +67,8 @@ pub fn change(scene: &mut Scene<'_>, words: &[&str]) -> Result<Option<What>, Fau
     }
 }
 
-// The limit that refused a change, if it was refused.
-fn limit_of(outcome: Result<(), StoreFault>) -> Result<Option<What>, Fault> {
+/// The limit that refused a change, if it was refused.
+pub fn limit_of(outcome: Result<(), StoreFault>) -> Result<Option<What>, Fault> {
     match outcome {
         Ok(()) => Ok(None),
         Err(StoreFault::Limit(what)) => Ok(Some(what)),

@@ -7,6 +7,7 @@ mod going_back;
 mod listing;
 mod rows;
 mod scene;
+mod sharing;
 mod stories;
 mod whole;
 
@@ -14,7 +15,9 @@ use case_notation::{Fault, Tally, run};
 use stories::Stories;
 
 // The files of cases. Each begins with what it shows.
-const FILES: [&str; 6] = ["rows", "grants", "rollups", "removals", "marks", "limits"];
+const FILES: [&str; 7] = [
+    "rows", "grants", "shares", "rollups", "removals", "marks", "limits",
+];
 
 fn main(rt: HostRuntime) -> Result<(), Fault> {
     let mut tally = Tally::new();

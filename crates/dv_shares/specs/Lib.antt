@@ -1,0 +1,4 @@
+pub mod Rights
+pub mod Grants
+pub mod Outcome
+pub mod Steps

@@ -1,0 +1,20 @@
+-- What comes of a call: the world that it makes, its earlier states, and its refusals.
+use Rattle.std.specs.Prelude.{◌≡◌, ◌<◌, ◌≤◌, ◌⊎◌}
+use Rattle.dv_refusal.specs.declared.what.What.TheVariants.{Grant}
+use Rattle.dv_work.specs.History.{History, Extends}
+use Rattle.dv_store.specs.declared.fault.StoreFault.{StoreFault}
+use Rattle.dv_store.specs.declared.fault.StoreFault.TheVariants.{Limit, OutOfMemory}
+use Rattle.dv_store.specs.World.{World, grant_total, most_grants}
+
+-- a store comes to a world, and each mark that it had, that of the world before too, brings back what it brought back
+pub record Makes (old new : History World) (w : World) : Type 0 where
+  pub present : new.present ≡ w
+  pub extends : Extends old new
+
+-- the limit of grants isn't passed, if it wasn't before
+abbrev pub StaysWithin : World → World → Type 0
+StaysWithin old new = grant_total old ≤ most_grants → grant_total new ≤ most_grants
+
+-- a refusal to make a world: memory ran out, or there is the limit of grants, which that world passes
+abbrev pub MayRefuse : World → StoreFault → Type 0
+MayRefuse w fault = (fault ≡ OutOfMemory) ⊎ ((fault ≡ Limit Grant) × (most_grants < grant_total w))
