@@ -1,0 +1,21 @@
+//! Runs the cases of cascades in data/.
+#![tactic(auto)]
+
+mod asking;
+mod rows;
+mod scene;
+mod stories;
+
+use case_notation::{Fault, Tally, run};
+use stories::Stories;
+
+// The files of cases. Each begins with what it shows.
+const FILES: [&str; 3] = ["worked", "kinds", "generated"];
+
+fn main(rt: HostRuntime) -> Result<(), Fault> {
+    let mut tally = Tally::new();
+    for file in FILES {
+        run(&rt, file, &Stories, &mut tally)?;
+    }
+    tally.tell(&rt)
+}

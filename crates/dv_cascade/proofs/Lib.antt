@@ -1,0 +1,9 @@
+pub mod Among
+pub mod Left
+pub mod Finding
+pub mod Leading
+pub mod Closures
+pub mod Least
+pub mod Climbing
+pub mod Blocked
+pub mod Emptied
