@@ -1,0 +1,15 @@
+pub mod Places
+pub mod Columns
+pub mod Faults
+pub mod Operators
+pub mod Operands
+pub mod Links
+pub mod Filters
+pub mod Placed
+pub mod Parts
+pub mod Base
+pub mod LinkFaults
+pub mod ConditionFaults
+pub mod OrderFaults
+pub mod Queries
+pub mod Accepted

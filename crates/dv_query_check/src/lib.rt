@@ -1,0 +1,23 @@
+//! Whether a query can be asked of the tables of a definition: every part of it is looked at before a row is read.
+//!
+//! Callers may rely on this: a query is accepted exactly where it has no fault by the stated rules; otherwise its
+//! first fault is told, in one stated order, with its place in the request and its kind. In an accepted query every
+//! table, column and alias is there, and every value is one of its column's kind.
+#![tactic(auto)]
+
+mod base;
+mod check;
+mod columns;
+mod conditions;
+mod fault;
+mod filters;
+mod links;
+mod operands;
+mod operators;
+mod orders;
+mod part;
+mod path;
+mod placed;
+
+pub use check::{an_accepted_query_is_well_typed, check_query};
+pub use fault::{QueryFault, QueryKind};
