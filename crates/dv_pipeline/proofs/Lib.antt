@@ -1,0 +1,4 @@
+pub mod Fitting
+pub mod Making
+pub mod Owning
+pub mod Walking

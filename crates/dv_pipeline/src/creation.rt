@@ -1,0 +1,326 @@
+//! A creation, and each check that is made of it.
+ghost use Rattle.std.specs.Prelude.{◌≡◌, IfOk, chars, codes, false, filter, nat_lt};
+ghost use Rattle.std.specs.Option.{option_copied};
+ghost use Rattle.dv_units.specs.Chart.{is_user};
+ghost use Rattle.dv_store.specs.Keys.{row_key};
+ghost use Rattle.dv_store.specs.World.{is_there, World};
+ghost use Rattle.dv_pipeline.specs.Checked.{Answers, Walked};
+ghost use Rattle.dv_pipeline.specs.Columns.{own_columns, owner_name, given_by};
+ghost use Rattle.dv_pipeline.specs.Creating.{creating_in, id_in, owner_in, new_id, is_owner_team, can_own, is_bad_owner, is_reserved, has_no_id, is_missing, is_empty, new_row, most_bytes, sizes_of, refused_if, earlier, first_by_name, missing_fault, MayCreate, CreationSays, creation_checks};
+ghost use Rattle.dv_refusal.specs.declared.refusal.Refusal.TheVariants as answer;
+ghost use Rattle.dv_refusal.specs.declared.what.What.TheVariants as what;
+
+use crate::columns::{check_values, given_by, own_columns};
+use crate::requests::{answer, denied};
+use crate::size::is_too_large;
+use crate::stop::Stop;
+use dv_access::check_new;
+use dv_refusal::{Refusal, What};
+use dv_roles::Directory;
+use dv_schema::{Action, Column, Table};
+use dv_store::{Row, Store};
+use dv_units::Units;
+use dv_value::{Id, Kind, Text, Value, Values};
+use std::alloc::{AllocError, Global};
+
+/// The first id that callers may choose: 2^64. The service gives those below it.
+const FIRST_FREE: u128 = 18_446_744_073_709_551_616;
+
+/// The creation of a row: in which table, by whom and when, with which id if one is chosen, and with which values.
+#[derive(Clone, Copy, Drop)]
+pub(crate) struct Creation<'a> {
+    pub directory: &'a Directory,
+    pub number: u16,
+    pub table: &'a Table,
+    pub user: Id,
+    pub moment: i64,
+    pub chosen: Option<Id>,
+    pub values: &'a Values,
+}
+
+/// What is checked of a creation before it is made.
+#[derive(Clone, Copy, Debug, PartialEq, Eq)]
+pub(crate) enum CreationCheck {
+    /// Each value is one of a column that can be given.
+    Values,
+    /// The id that is chosen isn't one of those that the service gives.
+    ChosenId,
+    /// There is an id left, where none is chosen.
+    NextId,
+    /// The owner is a user or an owner team.
+    Owner,
+    /// The user has the privilege to make rows of the owner.
+    Privilege,
+    /// Each required column has a value.
+    Required,
+    /// No row of the table has the id.
+    FreeId,
+    /// The row isn't too large.
+    Size,
+}
+
+/// The checks, in the order in which they are made.
+pub(crate) const CREATION_CHECKS: [CreationCheck; 8] = [
+    CreationCheck::Values,
+    CreationCheck::ChosenId,
+    CreationCheck::NextId,
+    CreationCheck::Owner,
+    CreationCheck::Privilege,
+    CreationCheck::Required,
+    CreationCheck::FreeId,
+    CreationCheck::Size,
+];
+
+/// A refusal where a test holds.
+fn refused_if(test: bool, refusal: Refusal) -> Result<(), Stop>
+    ensures { Answers (λ said. said ≡ refused_if test refusal) result }
+{
+    if test { answer(Some(refusal)) } else { Ok(()) }
+}
+
+/// Whether an id that is no user's is that of an owner team.
+#[tactic(auto, using(crate::proofs::Owning::unit_of_is))]
+fn is_owner_team(units: &Units, id: Id) -> bool
+    requires { is_user units.now id ≡ false }
+    ensures { result ≡ is_owner_team units.now id }
+{
+    match units.access(id) {
+        Some(access) => !access,
+        None => units.unit_of(id).is_some(),
+    }
+}
+
+/// Whether an id is that of a user or of an owner team.
+fn can_own(units: &Units, id: Id) -> bool
+    ensures { result ≡ can_own units.now id }
+{
+    if units.enabled(id).is_some() {
+        return true;
+    }
+    is_owner_team(units, id)
+}
+
+/// Whether an owner may not be one.
+fn is_bad_owner(units: &Units, owner: Option<Id>) -> bool
+    ensures { result ≡ is_bad_owner units.now owner }
+{
+    match owner {
+        Some(id) => !can_own(units, id),
+        None => false,
+    }
+}
+
+/// Whether the id that is chosen is one of those that the service gives.
+fn is_reserved(chosen: Option<Id>) -> bool
+    ensures { result ≡ is_reserved chosen }
+{
+    match chosen {
+        Some(id) => id.0 < FIRST_FREE,
+        None => false,
+    }
+}
+
+/// The id that a value names; else another.
+fn id_in(value: &Value, other: Id) -> Id
+    ensures { result ≡ id_in value.now other }
+{
+    match value {
+        Value::Ref(id) => *id,
+        _ => other,
+    }
+}
+
+/// Whether a value is empty.
+fn is_empty(value: &Value) -> bool
+    ensures { result ≡ is_empty value.now }
+{
+    match value {
+        Value::Empty => true,
+        _ => false,
+    }
+}
+
+/// The one of two columns whose name comes first in byte order.
+fn earlier<'a>(column: &'a Column, other: Option<&'a Column>) -> &'a Column
+    ensures { result.now ≡ earlier column.now (option_copied other.entry) }
+{
+    match other {
+        Some(other) if column.name > other.name => other,
+        _ => column,
+    }
+}
+
+/// Whether a column must have a value and gets none.
+fn is_missing(alloc: Global, values: &Values, column: &Column) -> Result<bool, AllocError>
+    ensures { IfOk result (λ missing. missing ≡ is_missing values.now column.now) }
+{
+    if !column.required {
+        return Ok(false);
+    }
+    let given = given_by(alloc, &column.kind, values.get(column.name.as_str()))?;
+    Ok(is_empty(&given))
+}
+
+/// Of the columns that must have a value and get none the first by name.
+#[tactic(auto, unfolding(crate::specs::Creating::first_by_name))]
+fn first_missing<'a>(
+    alloc: Global,
+    values: &Values,
+    columns: &'a [Column],
+) -> Result<Option<&'a Column>, AllocError>
+    ensures { IfOk result (λ first. option_copied first
+        ≡ first_by_name (filter (is_missing values.now) columns.now)) }
+{
+    let mut first = None;
+    let mut place = columns.len();
+    while place > 0 {
+        place -= 1;
+        let column = &columns[place];
+        if is_missing(alloc, values, column)? {
+            first = Some(earlier(column, first));
+        }
+    }
+    Ok(first)
+}
+
+impl Creation<'_> {
+    /// The owner of the new row, where rows have owners.
+    pub fn owner(&self, alloc: Global) -> Result<Option<Id>, AllocError>
+        ensures { IfOk result (λ owner. owner
+            ≡ owner_in self.now.table.now self.now.user self.now.values.now) }
+    {
+        if !self.table.user_owned {
+            return Ok(None);
+        }
+        let given = given_by(alloc, &Kind::Ref, self.values.get("ownerid"))?;
+        Ok(Some(id_in(&given, self.user)))
+    }
+
+    /// The id of the new row.
+    pub fn id(&self, store: &Store) -> Id
+        ensures { result ≡ new_id (creating_in store.now.present self.now) }
+    {
+        match self.chosen {
+            Some(id) => id,
+            None => Id(u128::from(store.numbers().last_id) + 1),
+        }
+    }
+
+    /// Checks that the owner may be one.
+    fn check_owner(&self, alloc: Global) -> Result<(), Stop>
+        ensures { Answers (λ said. said ≡ refused_if (is_bad_owner self.now.directory.now.chart
+            (owner_in self.now.table.now self.now.user self.now.values.now))
+            answer.BadPrincipal) result }
+    {
+        let owner = self.owner(alloc)?;
+        let is_bad = is_bad_owner(self.directory.units(), owner);
+        refused_if(is_bad, Refusal::BadPrincipal)
+    }
+
+    /// Checks the privilege to make rows of the owner.
+    fn check_privilege(&self, alloc: Global) -> Result<(), Stop>
+        ensures { Answers (MayCreate self.now.directory.now self.now.user self.now.number
+            self.now.table.now
+            (owner_in self.now.table.now self.now.user self.now.values.now)) result }
+    {
+        let owner = self.owner(alloc)?;
+        match check_new(
+            self.directory,
+            self.user,
+            Action::Create,
+            self.number,
+            owner,
+        ) {
+            Ok(()) => Ok(()),
+            Err(denial) => Err(Stop::Refused(denied(alloc, self.table, denial)?)),
+        }
+    }
+
+    /// Checks that each required column has a value.
+    #[tactic(auto, unfolding(crate::specs::Creating::missing_fault))]
+    fn check_required(&self, alloc: Global) -> Result<(), Stop>
+        ensures { Answers (λ said. said
+            ≡ missing_fault self.now.values.now (own_columns self.now.table.now)) result }
+    {
+        match first_missing(alloc, self.values, own_columns(self.table))? {
+            None => Ok(()),
+            Some(column) => Err(Stop::Refused(Refusal::RequiredMissing {
+                column: column.name.copy(alloc)?,
+            })),
+        }
+    }
+
+    /// Checks that no row has the id.
+    fn check_free_id(&self, store: &Store) -> Result<(), Stop>
+        ensures { Answers (λ said. said ≡ refused_if (is_there store.now.present.rows
+            (row_key self.now.number (new_id (creating_in store.now.present self.now)))) answer.IdTaken) result }
+    {
+        let is_taken = store.row(self.number, self.id(store)).is_some();
+        refused_if(is_taken, Refusal::IdTaken)
+    }
+
+    /// Checks that the row isn't too large.
+    fn check_size(&self, alloc: Global, row: &Row) -> Result<(), Stop>
+        ensures { Answers (λ said. said ≡ refused_if (nat_lt most_bytes (sizes_of row.now.values))
+            (answer.OutOfRange (chars (codes "row")))) result }
+    {
+        if !is_too_large(row.values.as_slice()) {
+            return Ok(());
+        }
+        Err(Stop::Refused(Refusal::OutOfRange {
+            column: Text::from_str(alloc, "row")?,
+        }))
+    }
+
+    /// Makes one of the checks. The new row is at hand.
+    #[tactic(auto, unfolding(crate::specs::Creating::CreationSays))]
+    fn judge(
+        &self,
+        alloc: Global,
+        row: &Row,
+        store: &Store,
+        check: CreationCheck,
+    ) -> Result<(), Stop>
+        requires { row.now ≡ new_row (creating_in store.now.present self.now) }
+        ensures { Answers (CreationSays (creating_in store.now.present self.now) check) result }
+    {
+        match check {
+            CreationCheck::Values => check_values(
+                alloc,
+                self.table.columns.as_slice(),
+                self.values.as_slice(),
+            ),
+            CreationCheck::ChosenId => { refused_if(is_reserved(self.chosen), Refusal::ReservedId) }
+            CreationCheck::NextId => {
+                let has_none = self.chosen.is_none() && store.numbers().last_id == u64::MAX;
+                refused_if(has_none, Refusal::Limit { what: What::Id })
+            }
+            CreationCheck::Owner => self.check_owner(alloc),
+            CreationCheck::Privilege => self.check_privilege(alloc),
+            CreationCheck::Required => self.check_required(alloc),
+            CreationCheck::FreeId => self.check_free_id(store),
+            CreationCheck::Size => self.check_size(alloc, row),
+        }
+    }
+
+    /// Makes checks in their order, up to the first that fails.
+    #[tactic(auto, unfolding(crate::specs::Checked::AllPass, crate::specs::Checked::FirstSays))]
+    pub fn judge_all(
+        &self,
+        alloc: Global,
+        row: &Row,
+        store: &Store,
+        checks: &[CreationCheck],
+    ) -> Result<(), Stop>
+        requires { row.now ≡ new_row (creating_in store.now.present self.now) }
+        ensures { Walked (CreationSays (creating_in store.now.present self.now)) checks.now result }
+    {
+        for check in checks {
+            match self.judge(alloc, row, store, *check) {
+                Ok(()) => {}
+                Err(stop) => return Err(stop),
+            }
+        }
+        Ok(())
+    }
+}

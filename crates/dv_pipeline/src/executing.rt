@@ -1,0 +1,184 @@
+//! One request on rows.
+ghost use Rattle.std.specs.Prelude.{◌≡◌, IfOk, IfErr, OnOk, OnErr, Ok, Err, None};
+ghost use Rattle.std.specs.Option.{option_map};
+ghost use Rattle.dv_work.specs.History.{Extends};
+ghost use Rattle.dv_pipeline.specs.Requests.{caller_fault};
+ghost use Rattle.dv_pipeline.specs.Run.{table_at, TellsCaller, Runs};
+ghost use Rattle.dv_pipeline.specs.Scenes.{creation_in, query_in, play_in};
+ghost use Rattle.dv_refusal.specs.declared.refusal.Refusal.{Refusal as Answer};
+ghost use Rattle.dv_refusal.specs.declared.refusal.Refusal.TheVariants as Unknown;
+ghost use Rattle.dv_pipeline.specs.declared.stop.Stop.TheVariants.{Refused, OutOfMemory};
+
+use crate::caller::tell_caller;
+use crate::creating::create;
+use crate::creation::Creation;
+use crate::query::Asked;
+use crate::querying::answer_query;
+use crate::requests::start_fault;
+use crate::stop::Stop;
+use dv_query::Query;
+use dv_refusal::Refusal;
+use dv_request::{Reply, Request};
+use dv_roles::Directory;
+use dv_schema::{Definition, Table};
+use dv_store::Store;
+use dv_value::{Id, Text, Values};
+use std::alloc::Global;
+
+/// The table of a name, with its number.
+#[tactic(auto, unfolding(crate::specs::Run::table_at))]
+fn table_at<'a>(definition: &'a Definition, name: &Text) -> Option<(u16, &'a Table)>
+    ensures { option_map (λ found. (found.0, found.1.now)) result ≡ table_at definition.now name.now }
+{
+    let number = definition.table(name.as_str())?;
+    let table = definition.tables().get(usize::from(number))?;
+    Some((number, table))
+}
+
+/// The refusal of a table that isn't there.
+fn unknown_table(alloc: Global, name: &Text) -> Stop
+    ensures { (refusal : Answer) → result ≡ Refused refusal
+        → refusal ≡ Unknown.UnknownTable name.now }
+{
+    match name.copy(alloc) {
+        Ok(table) => Stop::Refused(Refusal::UnknownTable { table }),
+        Err(_) => Stop::OutOfMemory,
+    }
+}
+
+/// Who asks, and what a request is about.
+#[derive(Clone, Copy, Drop)]
+struct Scene<'a> {
+    directory: &'a Directory,
+    definition: &'a Definition,
+    user: Id,
+    moment: i64,
+}
+
+/// Makes a row.
+#[tactic(auto, unfolding(crate::specs::Run::RunsCreation))]
+fn run_creation(
+    alloc: Global,
+    store: &mut Store,
+    scene: &Scene<'_>,
+    name: &Text,
+    chosen: Option<Id>,
+    values: &Values,
+) -> Result<Reply, Stop>
+    ensures ok { IfOk result (λ reply. creation_in scene.now store.old.present name.now chosen
+        values.now store.new.present (Ok reply)) }
+    ensures refused { (refusal : Answer) → result ≡ Err (Refused refusal)
+        → creation_in scene.now store.old.present name.now chosen values.now
+        store.old.present (Err refusal) }
+    ensures extends { OnOk result (Extends store.old store.new) }
+    ensures kept { OnErr result (store.new ≡ store.old) }
+{
+    let Some((number, table)) = table_at(scene.definition, name) else {
+        return Err(unknown_table(alloc, name));
+    };
+    let creation = Creation {
+        directory: scene.directory,
+        number,
+        table,
+        user: scene.user,
+        moment: scene.moment,
+        chosen,
+        values,
+    };
+    create(alloc, store, &creation)
+}
+
+/// Answers a query.
+#[tactic(auto, unfolding(crate::specs::Run::RunsQuery))]
+fn run_query(alloc: Global, store: &Store, scene: &Scene<'_>, query: &Query) -> Result<Reply, Stop>
+    ensures ok { IfOk result (λ reply. query_in scene.now store.now.present query.now (Ok reply)) }
+    ensures refused { (refusal : Answer) → result ≡ Err (Refused refusal)
+        → query_in scene.now store.now.present query.now (Err refusal) }
+{
+    let Some((number, table)) = table_at(scene.definition, &query.table) else {
+        return Err(unknown_table(alloc, &query.table));
+    };
+    let asked = Asked {
+        directory: scene.directory,
+        number,
+        table,
+        user: scene.user,
+        names: &query.columns,
+    };
+    answer_query(alloc, &asked, store)
+}
+
+/// Tells a user who it is.
+fn run_caller(alloc: Global, scene: &Scene<'_>) -> Result<Reply, Stop>
+    requires { caller_fault scene.now.directory.now scene.now.user ≡ None }
+    ensures ok { IfOk result (TellsCaller scene.now.directory.now scene.now.user) }
+    ensures memory { IfErr result (λ stop. stop ≡ OutOfMemory) }
+{
+    match scene.directory.units().unit_of(scene.user) {
+        Some(unit) => Ok(tell_caller(alloc, scene.directory, scene.user, unit)?),
+        None => Err(Stop::Refused(Refusal::UnknownCaller)),
+    }
+}
+
+/// Serves a request that nothing refuses at the start.
+#[tactic(auto, unfolding(crate::specs::Run::Plays))]
+fn play(
+    alloc: Global,
+    store: &mut Store,
+    scene: &Scene<'_>,
+    request: &Request,
+) -> Result<Reply, Stop>
+    requires { caller_fault scene.now.directory.now scene.now.user ≡ None }
+    ensures ok { IfOk result (λ reply.
+        play_in scene.now store.old.present request.now store.new.present (Ok reply)) }
+    ensures refused { (refusal : Answer) → result ≡ Err (Refused refusal)
+        → play_in scene.now store.old.present request.now store.old.present (Err refusal) }
+    ensures extends { OnOk result (Extends store.old store.new) }
+    ensures kept { OnErr result (store.new ≡ store.old) }
+{
+    match request {
+        Request::Create { table, id, values } => {
+            run_creation(alloc, store, scene, table, *id, values)
+        }
+        Request::Query { query } => run_query(alloc, store, scene, query.get()),
+        Request::WhoAmI => run_caller(alloc, scene),
+        _ => Err(Stop::Refused(Refusal::NotBuilt)),
+    }
+}
+
+/// Serves a request on rows at a moment: makes a row, answers a query for columns of all rows that the user may read,
+/// or tells the user who it is. Directory, definition and store are of one organisation.
+///
+/// # Errors
+///
+/// `Refused` with the first check that fails: no user has the id, or it is disabled; the request may not stand here;
+/// it isn't built yet; or what the message itself checks. `OutOfMemory`. The store is then as it was.
+#[tactic(auto, unfolding(crate::specs::Run::Runs, crate::specs::Run::Starts))]
+pub fn execute(
+    alloc: Global,
+    store: &mut Store,
+    directory: &Directory,
+    definition: &Definition,
+    user: Id,
+    moment: i64,
+    request: &Request,
+) -> Result<Reply, Stop>
+    ensures ok { IfOk result (λ reply. Runs definition.now directory.now store.old.present
+        user moment request.now store.new.present (Ok reply)) }
+    ensures refused { (refusal : Answer) → result ≡ Err (Refused refusal)
+        → Runs definition.now directory.now store.old.present user moment request.now
+        store.old.present (Err refusal) }
+    ensures extends { OnOk result (Extends store.old store.new) }
+    ensures kept { OnErr result (store.new ≡ store.old) }
+{
+    if let Some(refusal) = start_fault(directory, user, request) {
+        return Err(Stop::Refused(refusal));
+    }
+    let scene = Scene {
+        directory,
+        definition,
+        user,
+        moment,
+    };
+    play(alloc, store, &scene, request)
+}
