@@ -1,6 +1,8 @@
-//! Tests of the ground floor that no file of cases can say: the ends of streams, short and failing. They stand
+//! Tests of the ground floor that no file of cases can say: the ends of streams and the clocks, short and failing. They stand
 //! outside the libraries, so that no library is proved twice.
 #![tactic(auto)]
 
+#[cfg(test)]
+mod clocks;
 #[cfg(test)]
 mod ends;
