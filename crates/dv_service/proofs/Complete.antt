@@ -3,21 +3,20 @@ use Rattle.std.specs.Io.KnownBytes.{prepend_known, IsAtEnd}
 use Rattle.std.proofs.lemmas.List.{append-nil}
 use Rattle.dv_base.specs.Faults.{Rose}
 use Rattle.dv_service.specs.Lines.{has_content, open_line, lines_of}
-use Rattle.dv_service.specs.Definitions.{opening_of}
+use Rattle.dv_base.specs.Clock.{ClockState}
 use Rattle.dv_service.specs.Machine.{Run}
+use Rattle.dv_service.specs.Opening.{Begins}
+use Rattle.dv_service.specs.Organisations.{Organisation}
+use Rattle.dv_service.specs.Outside.{Outside}
 use Rattle.dv_service.specs.Statuses.{is_status, code_of}
 use Rattle.dv_service.specs.Outcome.{HaveEnded, EndsUnopened, RefusesFirst, NotOpened, RanToEnd, IsOpened, StoppedAtLimit, Ran}
 use Rattle.dv_service.specs.Sessions.{TellsFault}
 use Rattle.dv_service.specs.declared.run.TheConstants.{INPUT_LIMIT}
-use Rattle.dv_service.specs.declared.definition.Definition.{Definition}
-use Rattle.dv_service.specs.declared.org.Org.{Org}
-use Rattle.dv_service.specs.declared.reply.Reply.{Reply}
+use Rattle.dv_service.specs.declared.answer.Answer.{Answer}
 use Rattle.dv_service.specs.declared.status.Ending.{Ending}
 use Rattle.dv_service.specs.declared.status.Ending.TheVariants as ending
+use Rattle.dv_service.proofs.Beginnings.{Begins-or-declines}
 use Rattle.dv_service.proofs.Splitting.{ended_lines-append}
-
-none_some : (d : Definition) → None ≡ Some d → ⊥
-none_some d is = cc
 
 same_bytes : (a b : List ℕ) → Some a ≡ Some b → a ≡ b
 same_bytes a b is = cc
@@ -25,7 +24,7 @@ same_bytes a b is = cc
 no_bytes : (a : List ℕ) → None ≡ Some a → ⊥
 no_bytes a is = cc
 
-no_org : (a : Org) → Some a ≡ None → ⊥
+no_org : (a : Organisation) → Some a ≡ None → ⊥
 no_org a is = cc
 
 -- no more bytes were taken than there were
@@ -51,33 +50,33 @@ first_line bytes (Some rest) taken lines others line took (inl ended) parts =
 first_line bytes (Some rest) taken lines others line took (inr ended) parts =
     (others, ap lines_of (whole_input bytes (Some rest) taken took ended.1) ∙ sym ended.0 ∙ parts)
 
-opened_first : (lines more : List (List ℕ)) (line : List ℕ) → lines ≡ line ∷ more → IsOpened lines → (definition : Definition) × (opening_of line ≡ Some definition)
+opened_first : (lines more : List (List ℕ)) (line : List ℕ) → lines ≡ line ∷ more → IsOpened lines → (org : Organisation) × Begins line org
 opened_first lines more line parts is_opened = rw parts at is_opened
 
 opened_none : (lines : List (List ℕ)) → lines ≡ [] → IsOpened lines → ⊥
 opened_none lines none is_opened = rw none at is_opened
 
 -- an input that opens an organisation doesn't leave it unopened
-opened : (bytes : List ℕ) (left_now written written_now : Option (List ℕ)) → NotOpened (Some bytes) left_now written written_now → IsOpened (lines_of bytes) → ⊥
+opened : (bytes : List ℕ) (left_now : Option (List ℕ)) (written written_now : Outside) → NotOpened (Some bytes) left_now written written_now → IsOpened (lines_of bytes) → ⊥
 opened bytes left_now written written_now unopened is_opened = by_how unopened.how
   where
     by_how : EndsUnopened unopened.taken left_now written written_now ⊎ RefusesFirst unopened.taken left_now written written_now → ⊥
     by_how (inl ends) = opened_none (lines_of bytes) (ap lines_of (whole_input bytes left_now unopened.taken unopened.took ends.at_end) ∙ ends.none) is_opened
     by_how (inr refuses) =
         let first = first_line bytes left_now unopened.taken refuses.lines refuses.others refuses.line unopened.took refuses.ended refuses.parts in
-        let definition = opened_first (lines_of bytes) first.0 refuses.line first.1 is_opened in
-        none_some definition.0 (sym refuses.bad ∙ definition.1)
+        let begun = opened_first (lines_of bytes) first.0 refuses.line first.1 is_opened in
+        Begins-or-declines refuses.line begun.0 refuses.bad.0 refuses.bad.1 begun.1 refuses.bad.2
 
 -- lines that were answered up to an organisation opened it
-Run-opened : (lines : List (List ℕ)) (replies : List Reply) (org : Org) → Run None lines replies (Some org) → IsOpened lines
-Run-opened [] [] org ran = no_org org ran
-Run-opened [] (reply ∷ replies) org ran = ran
-Run-opened (line ∷ lines) [] org ran = absurd ran
-Run-opened (line ∷ lines) (reply ∷ replies) org (next, first, ran) = (first.0, first.1)
+Run-opened : (lines : List (List ℕ)) (clock : ClockState) (answers : List Answer) (org : Organisation) (after : ClockState) → Run None lines clock answers (Some org) after → IsOpened lines
+Run-opened [] clock [] org after ran = no_org org ran.0
+Run-opened [] clock (answer ∷ answers) org after ran = ran
+Run-opened (line ∷ lines) clock [] org after ran = absurd ran
+Run-opened (line ∷ lines) clock (answer ∷ answers) org after (next, ticked, first, ran) = (next, first.0)
 
-finished_opened : (bytes : List ℕ) (left_now written written_now : Option (List ℕ)) → RanToEnd (Some bytes) left_now written written_now → IsOpened (lines_of bytes)
+finished_opened : (bytes : List ℕ) (left_now : Option (List ℕ)) (written written_now : Outside) → RanToEnd (Some bytes) left_now written written_now → IsOpened (lines_of bytes)
 finished_opened bytes left_now written written_now ran =
-    rw (whole_input bytes left_now ran.input ran.took ran.at_end) (Run-opened (lines_of ran.input) ran.answered.replies ran.org ran.answered.ran)
+    rw (whole_input bytes left_now ran.input ran.took ran.at_end) (Run-opened (lines_of ran.input) _ ran.answered.answers ran.org _ ran.answered.ran)
 
 pub is_status-code_of : (e : Ending) → is_status (code_of e) ≡ true
 unfolding is_status code_of
@@ -88,7 +87,7 @@ is_status-code_of ending.WriteFault = refl
 is_status-code_of ending.OutOfMemory = refl
 is_status-code_of ending.InputLimit = refl
 
-module _ (left_now written written_now : Option (List ℕ)) (reads reads_now writes writes_now : ℕ) where
+module _ (left_now : Option (List ℕ)) (written written_now : Outside) (reads reads_now writes writes_now : ℕ) where
   past_limit : (bytes : List ℕ) → StoppedAtLimit (Some bytes) left_now written written_now → length bytes < INPUT_LIMIT → ⊥
   past_limit bytes limit short = let fits = within bytes left_now limit.0.taken limit.0.took in omega (arith, fits, limit.1, short)
 

@@ -4,11 +4,12 @@ use Rattle.std.specs.Io.KnownBytes.{prepend_known, IsAtEnd}
 use Rattle.dv_base.specs.Source.{IsEmptyExactlyAtEnd}
 use Rattle.dv_base.proofs.KnownBytesLaws.{prepend_known-nil}
 use Rattle.dv_service.specs.Lines.{ended_lines, lines_of}
+use Rattle.dv_service.specs.Organisations.{Organisation}
 use Rattle.dv_service.specs.Outcome.{Answered, Ran}
+use Rattle.dv_service.specs.Outside.{Outside}
 use Rattle.dv_service.specs.Sessions.{Leaves}
 use Rattle.dv_service.specs.Statuses.{ending_of}
 use Rattle.dv_service.specs.Turns.{Finished}
-use Rattle.dv_service.specs.declared.org.Org.{Org}
 use Rattle.dv_service.specs.declared.run.TheConstants.{INPUT_LIMIT}
 use Rattle.dv_service.specs.declared.status.Ending.{Ending}
 use Rattle.dv_service.specs.declared.status.Ending.TheVariants as ending
@@ -34,7 +35,7 @@ at_end-of n buffer left (Some rest) zero room took end =
     (subst (λ l. IfSome l (λ bytes. (n ≡ 0) ↔ (bytes ≡ []))) is (end room)).0 zero
 
 -- what the lines left at the end of the input, the run has done
-pub Ran-finished : (e : Ending) (bytes : List ℕ) (left left_now written written_now : Option (List ℕ)) → left ≡ prepend_known bytes left_now → IsAtEnd left_now
+pub Ran-finished : (e : Ending) (bytes : List ℕ) (left left_now : Option (List ℕ)) (written written_now : Outside) → left ≡ prepend_known bytes left_now → IsAtEnd left_now
     → length bytes < INPUT_LIMIT → Finished e (lines_of bytes) written written_now → Ran e left left_now written written_now
 Ran-finished ending.Done bytes left left_now written written_now took at_end short (org, answered) =
     record { input = bytes; took = took; at_end = at_end; short = short; org = org; answered = answered }
@@ -49,6 +50,7 @@ Ran-finished ending.NotOpened bytes left left_now written written_now took at_en
     line = refused.line;
     others = refused.others;
     parts = refused.first;
+    text = refused.text;
     bad = refused.bad;
     wrote = refused.wrote;
   });
@@ -60,7 +62,7 @@ Ran-finished ending.OutOfMemory bytes left left_now written written_now took at_
 Ran-finished ending.InputLimit bytes left left_now written written_now took at_end short none = absurd none
 
 -- what a stop within a piece left, the run has done
-pub Ran-stopped : (s : Stop) (stood : Type 0) (bytes : List ℕ) (left left_now written written_now : Option (List ℕ)) → left ≡ prepend_known bytes left_now
+pub Ran-stopped : (s : Stop) (stood : Type 0) (bytes : List ℕ) (left left_now : Option (List ℕ)) (written written_now : Outside) → left ≡ prepend_known bytes left_now
     → length bytes ≤ INPUT_LIMIT → Leaves {T = Unit {0}} (Err s) stood (ended_lines bytes) written written_now → Ran (ending_of s) left left_now written written_now
 Ran-stopped stop.NotOpened stood bytes left left_now written written_now took within refused = record {
   taken = bytes;
@@ -71,6 +73,7 @@ Ran-stopped stop.NotOpened stood bytes left left_now written written_now took wi
     line = refused.line;
     others = refused.others;
     parts = refused.first;
+    text = refused.text;
     bad = refused.bad;
     wrote = refused.wrote;
   });
@@ -80,12 +83,12 @@ Ran-stopped stop.WriteFault stood bytes left left_now written written_now took w
 Ran-stopped stop.OutOfMemory stood bytes left left_now written written_now took within untouched = untouched
 
 -- what the lines left where an organisation has begun
-pub Finished-some : (org : Option Org) (some : Org) (lines : List (List ℕ)) (before now : Option (List ℕ)) → org ≡ Some some
+pub Finished-some : (org : Option Organisation) (some : Organisation) (lines : List (List ℕ)) (before now : Outside) → org ≡ Some some
     → Answered lines org before now → Finished ending.Done lines before now
 Finished-some org some lines before now is answered = (some, subst (λ o. Answered lines o before now) is answered)
 
 -- what a stop left at the end of the input
-pub Finished-stopped : (s : Stop) (stood : Type 0) (lines : List (List ℕ)) (before now : Option (List ℕ))
+pub Finished-stopped : (s : Stop) (stood : Type 0) (lines : List (List ℕ)) (before now : Outside)
     → Leaves {T = Unit {0}} (Err s) stood lines before now → Finished (ending_of s) lines before now
 Finished-stopped stop.NotOpened stood lines before now refused = inr refused
 Finished-stopped stop.WriteFault stood lines before now cut = cut
@@ -98,5 +101,5 @@ ending_of-ReadFault stop.WriteFault is = cc
 ending_of-ReadFault stop.OutOfMemory is = cc
 
 -- and the end of the input is none
-pub Finished-ReadFault : (e : Ending) (lines : List (List ℕ)) (before now : Option (List ℕ)) → Finished e lines before now → e ≡ ending.ReadFault → ⊥
+pub Finished-ReadFault : (e : Ending) (lines : List (List ℕ)) (before now : Outside) → Finished e lines before now → e ≡ ending.ReadFault → ⊥
 Finished-ReadFault e lines before now finished is = rw is at finished

@@ -1,183 +1,153 @@
-//! The definition line.
-ghost use Rattle.std.specs.Prelude.{◌≡◌, List, ℕ, IfOk, option_and_then, option_map};
-ghost use Rattle.std.specs.List.{list_any};
-ghost use Rattle.std.specs.Str.{bytes_eq};
-ghost use Rattle.serde_json.specs.View.{view, items_view};
+//! The definition line, by which an organisation begins.
+ghost use Rattle.std.specs.Prelude.{◌≡◌, ℕ, List, IfOk, IsErrOf, Ok, [], Some, chars, option_map, false};
+ghost use Rattle.dv_meta.specs.Reader.{IsAccepted};
+ghost use Rattle.dv_roles.specs.Beginning.{beginning};
+ghost use Rattle.dv_store.specs.World.{empty};
 ghost use Rattle.dv_service.specs.Lines.{within_limit};
-ghost use Rattle.dv_service.specs.Members.{each_of, list_of};
-ghost use Rattle.dv_service.specs.Definitions.{is_sound_column, column_of, has_distinct_names, are_sound_columns, table_of, are_sound_ids, definition_data, definition_of, opening_of, only};
+ghost use Rattle.dv_service.specs.Opening.{kind_word, is_later, has_later_column, has_later, Begins, Declines, IsUnfit};
 
-use crate::definition::{Column, Definition};
-use crate::members::{has_count, has_word_at, id_member, list_member, number_member, text_member};
-use crate::naming::{is_reserved_name, is_valid_name};
-use dv_value::{Id, JsonFault, Text, read_json};
-use serde_json::Value as Json;
-use sqlite_items::Items;
+use crate::org::Org;
+use dv_meta::read_definition;
+use dv_roles::Directory;
+use dv_schema::{ColumnRole, DefFault, DefKind, Definition, Table};
+use dv_store::Store;
+use dv_units::DirFault;
+use dv_value::Text;
 use std::alloc::{AllocError, Global};
 
-/// The most characters that a column may allow its texts.
-pub const LONGEST_TEXT: u64 = 2_000;
-
-/// The most columns of the table.
-pub const MOST_COLUMNS: usize = 60;
-
-#[tactic(auto, unfolding(crate::specs::Definitions::is_sound_column))]
-fn is_sound(name: &Text, max: u64) -> bool
-    ensures { result ≡ is_sound_column name.now max }
-{
-    is_valid_name(name) && !is_reserved_name(name) && 1 <= max && max <= LONGEST_TEXT
+/// Why no organisation begins.
+#[derive(Drop)]
+pub enum OpenFault {
+    /// The definition isn't accepted: what is wrong with it, and where.
+    Bad { kind: Text, place: Text },
+    OutOfMemory,
 }
 
-#[tactic(auto, unfolding(crate::specs::Definitions::column_of))]
-fn read_column(alloc: Global, json: &Json) -> Result<Option<Column>, AllocError>
-    ensures { IfOk result (λ column. column ≡ column_of (view json.now)) }
-{
-    if !has_count(json, 3) || !has_word_at(json, "type", "text") {
-        return Ok(None);
-    }
-    let Some(name) = text_member(alloc, json, "name")? else {
-        return Ok(None);
-    };
-    let Some(max) = number_member(json, "max") else {
-        return Ok(None);
-    };
-    if is_sound(&name, max) {
-        Ok(Some(Column { name, max }))
-    } else {
-        Ok(None)
+impl From<AllocError> for OpenFault {
+    ghost use Rattle.dv_service.specs.declared.opening.OpenFault.TheVariants.{OutOfMemory};
+
+    ghost from_gives = { λ _ fault. fault ≡ OutOfMemory };
+
+    fn from(_: AllocError) -> OpenFault {
+        OpenFault::OutOfMemory
     }
 }
 
-fn read_columns(alloc: Global, items: &Vec<Json>) -> Result<Option<Items<Column>>, AllocError>
-    ensures { IfOk result (λ columns. columns
-        ≡ each_of column_of (list_of (items_view items.now.items))) }
+/// The word for what is wrong with a definition.
+#[tactic(auto, unfolding(crate::specs::Opening::kind_word))]
+fn kind_word(kind: DefKind) -> &'static str
+    ensures { result.now ≡ kind_word kind }
 {
-    let mut columns = Items::new(alloc);
-    for item in items {
-        match read_column(alloc, item)? {
-            Some(column) => columns.push(column)?,
-            None => return Ok(None),
+    match kind {
+        DefKind::NotJson => "NotJson",
+        DefKind::UnknownField => "UnknownField",
+        DefKind::BadForm => "BadForm",
+        DefKind::Limit => "Limit",
+        DefKind::NameTaken => "NameTaken",
+        DefKind::UnknownName => "UnknownName",
+        DefKind::BadCascade => "BadCascade",
+        DefKind::OwnershipClash => "OwnershipClash",
+        DefKind::SecondParent => "SecondParent",
+        DefKind::BadRollup => "BadRollup",
+        DefKind::UnknownStep => "UnknownStep",
+        DefKind::BadDirectory => "BadDirectory",
+    }
+}
+
+// Whether a column is one that isn't built yet.
+#[tactic(auto, unfolding(crate::specs::Opening::is_later))]
+fn is_later(role: &ColumnRole) -> bool
+    ensures { result ≡ is_later role.now }
+{
+    match role {
+        ColumnRole::Lookup(_) | ColumnRole::Rollup(_) => true,
+        ColumnRole::System | ColumnRole::Plain | ColumnRole::Companion => false,
+    }
+}
+
+fn has_later_column(table: &Table) -> bool
+    ensures { result ≡ has_later_column table.now }
+{
+    let columns = table.columns.as_slice();
+    columns.iter().any(|column| is_later(&column.role))
+}
+
+// Whether a definition has a column that isn't built yet.
+#[tactic(auto, unfolding(crate::specs::Opening::has_later))]
+fn has_later(definition: &Definition) -> bool
+    ensures { result ≡ has_later definition.now }
+{
+    definition.tables().iter().any(has_later_column)
+}
+
+// A fault of the whole line. The kind is a word of letters without accents.
+fn whole_fault(alloc: Global, kind: &str) -> OpenFault
+    requires { chars kind.now ≡ kind.now }
+    ensures { (named : List ℕ) (place : List ℕ) → result ≡ OpenFault.Bad named place
+        → (named ≡ kind.now) × (place ≡ []) }
+{
+    match Text::from_str(alloc, kind) {
+        Ok(kind) => OpenFault::Bad {
+            kind,
+            place: Text::new(alloc),
+        },
+        Err(_) => OpenFault::OutOfMemory,
+    }
+}
+
+// Reads the definition. A line above the limit is given as `None`.
+fn read(alloc: Global, line: Option<&[u8]>) -> Result<Definition, OpenFault>
+    ensures ok { (whole : List ℕ) → option_map (λ held. held.now) line.entry ≡ within_limit whole
+        → IfOk result (λ definition. (bytes : List ℕ) × (within_limit whole ≡ Some bytes)
+        × IsAccepted bytes 0 definition) }
+    ensures bad { (whole : List ℕ) → option_map (λ held. held.now) line.entry ≡ within_limit whole
+        → (kind : List ℕ) (place : List ℕ) → IsErrOf result (OpenFault.Bad kind place)
+        → Declines whole kind place }
+{
+    let Some(bytes) = line else {
+        return Err(whole_fault(alloc, "NotJson"));
+    };
+    match read_definition(alloc, bytes, 0) {
+        Ok(definition) => Ok(definition),
+        Err(DefFault::Bad { kind, place }) => {
+            let kind = Text::from_str(alloc, kind_word(kind))?;
+            Err(OpenFault::Bad { kind, place })
         }
-    }
-    Ok(Some(columns))
-}
-
-// Whether each column's name is its own.
-#[tactic(auto, unfolding(crate::specs::Definitions::has_distinct_names))]
-fn are_distinct(columns: &[Column]) -> bool
-    ensures { result ≡ has_distinct_names columns.now }
-{
-    match columns.split_first() {
-        Some((first, others)) => !is_taken(others, &first.name) && are_distinct(others),
-        None => true,
+        Err(DefFault::OutOfMemory) => Err(OpenFault::OutOfMemory),
     }
 }
 
-// Whether a column has the name.
-fn is_taken(columns: &[Column], name: &Text) -> bool
-    ensures { result ≡ list_any (λ column. bytes_eq column.name name.now) columns.now }
+// Begins the organisation of an accepted definition.
+fn begin_with(alloc: Global, definition: Definition) -> Result<Org, OpenFault>
+    ensures ok { IfOk result (λ org. (org.definition ≡ definition)
+        × (has_later definition ≡ false) × (beginning definition ≡ Ok org.directory)
+        × (org.world ≡ empty definition)) }
+    ensures bad { (kind : List ℕ) (place : List ℕ) → IsErrOf result (OpenFault.Bad kind place)
+        → IsUnfit definition kind × (place ≡ []) }
 {
-    columns.iter().any(|column| column.name.is(name.as_str()))
-}
-
-#[tactic(auto, unfolding(crate::specs::Definitions::are_sound_columns))]
-fn are_sound(columns: &[Column]) -> bool
-    ensures { result ≡ are_sound_columns columns.now }
-{
-    columns.len() <= MOST_COLUMNS && are_distinct(columns)
-}
-
-#[tactic(auto, unfolding(crate::specs::Definitions::table_of))]
-fn read_table(alloc: Global, json: &Json) -> Result<Option<(Text, Items<Column>)>, AllocError>
-    ensures { IfOk result (λ table. table ≡ table_of (view json.now)) }
-{
-    if !has_count(json, 3) || !has_word_at(json, "owned", "user") {
-        return Ok(None);
+    if has_later(&definition) {
+        return Err(whole_fault(alloc, "NotBuilt"));
     }
-    let Some(name) = text_member(alloc, json, "name")? else {
-        return Ok(None);
-    };
-    let Some(list) = list_member(json, "columns") else {
-        return Ok(None);
-    };
-    let Some(columns) = read_columns(alloc, list)? else {
-        return Ok(None);
-    };
-    if is_valid_name(&name) && are_sound(columns.as_slice()) {
-        Ok(Some((name, columns)))
-    } else {
-        Ok(None)
+    match Directory::begin(alloc, &definition) {
+        Ok(directory) => {
+            let store = Store::new(alloc, &definition)?;
+            Ok(Org::new(definition, directory, store))
+        }
+        Err(DirFault::Refused(_)) => Err(whole_fault(alloc, "BadDirectory")),
+        Err(DirFault::OutOfMemory) => Err(OpenFault::OutOfMemory),
     }
 }
 
-// The only table of a list.
-fn only_table(alloc: Global, list: &Vec<Json>) -> Result<Option<(Text, Items<Column>)>, AllocError>
-    ensures { IfOk result (λ table. table
-        ≡ option_and_then table_of (only (list_of (items_view list.now.items)))) }
+/// Begins the organisation of a definition line. A line above the limit is given as `None`.
+pub fn begin(alloc: Global, line: Option<&[u8]>) -> Result<Org, OpenFault>
+    ensures ok { (whole : List ℕ) → option_map (λ held. held.now) line.entry ≡ within_limit whole
+        → IfOk result (λ org. Begins whole org) }
+    ensures bad { (whole : List ℕ) → option_map (λ held. held.now) line.entry ≡ within_limit whole
+        → (kind : List ℕ) (place : List ℕ) → IsErrOf result (OpenFault.Bad kind place)
+        → Declines whole kind place }
 {
-    if list.len() == 1 {
-        read_table(alloc, &list[0])
-    } else {
-        Ok(None)
-    }
-}
-
-#[tactic(auto, unfolding(crate::specs::Definitions::are_sound_ids))]
-fn are_apart(root: Id, admin: Id) -> bool
-    ensures { result ≡ are_sound_ids root.0 admin.0 }
-{
-    root.0 != admin.0 && root.0 != 0 && admin.0 != 0
-}
-
-#[tactic(auto, unfolding(crate::specs::Definitions::definition_data))]
-fn read_object(alloc: Global, json: &Json) -> Result<Option<Definition>, AllocError>
-    ensures { IfOk result (λ definition. definition ≡ definition_data (view json.now)) }
-{
-    if !has_count(json, 3) {
-        return Ok(None);
-    }
-    let Some(root) = id_member(json, "root") else {
-        return Ok(None);
-    };
-    let Some(admin) = id_member(json, "admin") else {
-        return Ok(None);
-    };
-    let Some(list) = list_member(json, "tables") else {
-        return Ok(None);
-    };
-    let Some((table, columns)) = only_table(alloc, list)? else {
-        return Ok(None);
-    };
-    if are_apart(root, admin) {
-        Ok(Some(Definition {
-            root,
-            admin,
-            table,
-            columns,
-        }))
-    } else {
-        Ok(None)
-    }
-}
-
-#[tactic(auto, unfolding(crate::specs::Definitions::definition_of))]
-fn read_definition(alloc: Global, line: &[u8]) -> Result<Option<Definition>, AllocError>
-    ensures { IfOk result (λ definition. definition ≡ definition_of line.now) }
-{
-    match read_json(alloc, line) {
-        Ok(json) => read_object(alloc, &json),
-        Err(JsonFault::Malformed) => Ok(None),
-        Err(JsonFault::OutOfMemory) => Err(AllocError),
-    }
-}
-
-/// The definition that a first line is. A line above the limit is given as `None`.
-pub fn read_opening(alloc: Global, line: Option<&[u8]>) -> Result<Option<Definition>, AllocError>
-    ensures { (bytes : List ℕ) → option_map (λ held. held.now) line.entry ≡ within_limit bytes
-        → IfOk result (λ definition. definition ≡ opening_of bytes) }
-{
-    match line {
-        Some(line) => Ok(read_definition(alloc, line)?),
-        None => Ok(None),
+    match read(alloc, line) {
+        Ok(definition) => begin_with(alloc, definition),
+        Err(fault) => Err(fault),
     }
 }

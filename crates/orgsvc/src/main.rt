@@ -1,7 +1,7 @@
 //! The record service of an organisation: lines of JSON on standard input, a line of JSON on standard output for each.
 #![tactic(auto)]
 
-use dv_base::{StdSink, StdSource};
+use dv_base::{StdSink, StdSource, SystemClock};
 use dv_service::{Status, top};
 use std::process::ExitCode;
 use std::{env, io};
@@ -24,6 +24,13 @@ fn main(rt: HostRuntime) -> ExitCode {
     };
     let mut input = StdSource::new(rt.stdin());
     let mut output = StdSink::new(rt.stdout());
-    let Status(code) = top(rt.alloc(), words.as_slice(), &mut input, &mut output);
+    let mut clock = SystemClock::new(&rt);
+    let Status(code) = top(
+        rt.alloc(),
+        words.as_slice(),
+        &mut input,
+        &mut output,
+        &mut clock,
+    );
     ExitCode::from(code)
 }

@@ -16,7 +16,10 @@ use running::first_difference;
 use std::fs;
 
 // The files of scenarios.
-const FILES: [&str; 4] = [
+const FILES: [&str; 7] = [
+    "scenarios/access.txt",
+    "scenarios/clock.txt",
+    "scenarios/directory.txt",
     "scenarios/faults.txt",
     "scenarios/lines.txt",
     "scenarios/opening.txt",

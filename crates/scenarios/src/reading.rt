@@ -15,6 +15,7 @@ pub struct Reader {
     words: Vec<String>,
     pieces: Pieces,
     trouble: Trouble,
+    moments: Vec<i64>,
     is_unended: bool,
     times: Option<u32>,
     drafts: Vec<Draft>,
@@ -29,6 +30,7 @@ impl Reader {
             words: words_of(alloc, "run")?,
             pieces: Pieces::Sizes(Vec::from_slice(alloc, &[1, 7, 4_096])?),
             trouble: Trouble::Nothing,
+            moments: Vec::new(alloc),
             is_unended: false,
             times: None,
             drafts: Vec::new(alloc),
@@ -139,6 +141,8 @@ impl Reader {
             self.words = words_of(alloc, words)?;
         } else if let Some(sizes) = line.strip_prefix("pieces ") {
             self.pieces = pieces_of(alloc, sizes)?;
+        } else if let Some(moments) = line.strip_prefix("moments ") {
+            self.moments = moments_of(alloc, moments)?;
         } else if let Some(times) = line.strip_prefix("times ") {
             self.times = Some(times.parse::<u32>()?);
         } else if line == "the last line is not ended" {
@@ -177,6 +181,7 @@ impl Reader {
             words: read.words,
             pieces: read.pieces,
             trouble: read.trouble,
+            moments: read.moments,
             exchanges,
             status,
         })
@@ -217,6 +222,15 @@ fn pieces_of(alloc: Global, line: &str) -> Result<Pieces, Fault> {
     Ok(Pieces::Sizes(sizes))
 }
 
+// Moments in seconds since 1970.
+fn moments_of(alloc: Global, line: &str) -> Result<Vec<i64>, Fault> {
+    let mut moments = Vec::new(alloc);
+    for word in line.split_whitespace() {
+        moments.push(word.parse::<i64>()?)?;
+    }
+    Ok(moments)
+}
+
 // What a line says that goes wrong.
 fn trouble_of(line: &str) -> Result<Trouble, Fault> {
     match line {
@@ -229,6 +243,7 @@ fn trouble_of(line: &str) -> Result<Trouble, Fault> {
     let failure = match words {
         "read fails at call" => Failure::Read(number.parse::<u64>()?),
         "write fails at call" => Failure::Write(number.parse::<u64>()?),
+        "clock fails at call" => Failure::Clock(number.parse::<u64>()?),
         "room" => Failure::Room(number.parse::<u64>()?),
         _ => return Err(Fault::Wrong("an unknown line")),
     };

@@ -19,6 +19,7 @@ pub fn tell(
         None => {}
         Some(Failure::Read(call)) => println!(rt; "  where read {call} fails")?,
         Some(Failure::Write(call)) => println!(rt; "  where write {call} fails")?,
+        Some(Failure::Clock(call)) => println!(rt; "  where the clock fails at call {call}")?,
         Some(Failure::Room(room)) => println!(rt; "  where there is room for {room} bytes")?,
     }
     println!(rt; "  wanted status {}", scenario.status)?;

@@ -2,7 +2,7 @@
 use crate::ends::{NarrowSink, NarrowSource};
 use crate::scenario::{Failure, Pieces, Scenario, Trouble};
 use case_notation::Fault;
-use dv_base::{MemSink, MemSource};
+use dv_base::{ListClock, MemSink, MemSource};
 use dv_service::{Status, top};
 use std::alloc::{AllocError, Global};
 
@@ -132,6 +132,45 @@ fn reply_bytes(scenario: &Scenario) -> u64 {
 // What the sink has room for beyond the replies, so that what comes too much is seen.
 const SPARE_ROOM: u64 = 65_536;
 
+// The calls that fail, at 0 none, and the room of the sink where it is given.
+#[derive(Clone, Copy)]
+struct Failing {
+    read: u64,
+    write: u64,
+    clock: u64,
+    room: Option<u64>,
+}
+
+impl Failing {
+    fn of(failure: Option<Failure>) -> Failing {
+        let mut failing = Failing {
+            read: 0,
+            write: 0,
+            clock: 0,
+            room: None,
+        };
+        match failure {
+            None => {}
+            Some(Failure::Read(call)) => failing.read = call,
+            Some(Failure::Write(call)) => failing.write = call,
+            Some(Failure::Clock(call)) => failing.clock = call,
+            Some(Failure::Room(room)) => failing.room = Some(room),
+        }
+        failing
+    }
+}
+
+// A clock that gives the scenario's moments, or 0 at each call where it has none, and fails at this call.
+fn clock_of(
+    alloc: Global,
+    scenario: &Scenario,
+    failing_call: u64,
+) -> Result<ListClock, AllocError> {
+    let moments = scenario.moments.as_slice();
+    let last = moments.last().copied().unwrap_or(0);
+    Ok(ListClock::failing(Vec::from_slice(alloc, moments)?, last, failing_call))
+}
+
 // One run over memory ends. Where the room is given, the sink takes a byte at a time, so that replies are cut anywhere.
 fn run(
     alloc: Global,
@@ -140,22 +179,23 @@ fn run(
     piece: usize,
     failure: Option<Failure>,
 ) -> Result<Outcome, Fault> {
-    let (failing_read, failing_write, room) = match failure {
-        None => (0, 0, None),
-        Some(Failure::Read(call)) => (call, 0, None),
-        Some(Failure::Write(call)) => (0, call, None),
-        Some(Failure::Room(room)) => (0, 0, Some(room)),
-    };
+    let failing = Failing::of(failure);
     let mut source = NarrowSource::new(
-        MemSource::failing(Vec::from_slice(alloc, input)?, failing_read),
+        MemSource::failing(Vec::from_slice(alloc, input)?, failing.read),
         piece,
     );
     let ample = SPARE_ROOM.saturating_add(reply_bytes(scenario));
     let mut sink = NarrowSink {
-        inner: MemSink::failing(alloc, room.unwrap_or(ample), failing_write)?,
-        most: if room.is_some() { 1 } else { usize::MAX },
+        inner: MemSink::failing(alloc, failing.room.unwrap_or(ample), failing.write)?,
+        most: if failing.room.is_some() {
+            1
+        } else {
+            usize::MAX
+        },
     };
-    let Status(status) = top(alloc, scenario.words.as_slice(), &mut source, &mut sink);
+    let mut clock = clock_of(alloc, scenario, failing.clock)?;
+    let words = scenario.words.as_slice();
+    let Status(status) = top(alloc, words, &mut source, &mut sink, &mut clock);
     Ok(Outcome {
         piece,
         failure,

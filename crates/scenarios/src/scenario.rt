@@ -9,11 +9,12 @@ pub struct Exchange {
     pub reply: Vec<u8>,
 }
 
-/// What goes wrong: the call of an end that fails, counted from 1, or the room of the sink in bytes.
+/// What goes wrong: the call of an end or of the clock that fails, counted from 1, or the room of the sink in bytes.
 #[derive(Clone, Copy)]
 pub enum Failure {
     Read(u64),
     Write(u64),
+    Clock(u64),
     Room(u64),
 }
 
@@ -46,6 +47,8 @@ pub struct Scenario {
     pub words: Vec<String>,
     pub pieces: Pieces,
     pub trouble: Trouble,
+    /// The moments that the clock gives, one for each call, and the last for good.
+    pub moments: Vec<i64>,
     pub exchanges: Vec<Exchange>,
     pub status: u8,
 }

@@ -3,5 +3,3 @@
 
 #[cfg(test)]
 mod memory;
-#[cfg(test)]
-mod row_list;

@@ -1,5 +1,5 @@
 //! Out of memory while a line is served: that line alone is refused, and nothing of it stays.
-use dv_base::{MemSink, MemSource};
+use dv_base::{ListClock, MemSink, MemSource};
 use dv_service::{Status, top};
 use std::test::Fail;
 
@@ -58,7 +58,9 @@ fn a_line_refused_for_memory_leaves_the_others_served(rt: HostRuntime) -> Result
     words.push(String::from_str(alloc, "run")?)?;
     let mut source = MemSource::new(Vec::from_slice(alloc, LINES)?);
     let mut sink = MemSink::new(alloc, 1_000)?;
-    let Status(code) = top(alloc, words.as_slice(), &mut source, &mut sink);
+    let mut clock = ListClock::new(Vec::new(alloc), 0);
+    let words = words.as_slice();
+    let Status(code) = top(alloc, words, &mut source, &mut sink, &mut clock);
     if code == 9 {
         assert!(rt; sink.bytes().is_empty());
         return Ok(());

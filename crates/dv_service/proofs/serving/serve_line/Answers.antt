@@ -1,25 +1,45 @@
-use Rattle.std.proofs.Common.{sym, ◌∙◌, ap}
-use Rattle.std.specs.Option.{option_map}
-use Rattle.serde_json.specs.View.{view}
+use Rattle.std.proofs.Common.{sym, ◌∙◌, ap, Err}
+use Rattle.std.proofs.lemmas.Result.{IfOk-weaker}
 use Rattle.dv_refusal.specs.declared.refusal.Refusal.TheVariants.{Malformed, NotBuilt}
-use Rattle.dv_service.specs.declared.reply.Reply.TheVariants.{Refused}
-use Rattle.dv_service.proofs.Steps.{answer-none, answer-unread, answer-read}
+use Rattle.dv_service.specs.Answers.{refused}
+use Rattle.dv_service.specs.Serving.{reading_of}
+use Rattle.dv_service.proofs.Served.{Served-memory, Served-faulty, Served-later, Served-asked}
 use Rattle.dv_service.proofs.serving.serve_line.Goals as goal
 
-pub returns-in_default-clause-ok : goal.returns-in_default-clause-ok
-returns-in_default-clause-ok c = λ bytes e. (
-  Refused (Malformed c.new-place.result),
-  answer-none c.args.org.now bytes _ _ c.new-place.ensures (c.in_ok-json.ensures bytes e) (ap (option_map view) c.in_default.is),
-  c.in_ok-refuse.ensures,
+pub returns-in_err-refusal_line-in-Err-Malformed-clause-memory : goal.returns-in_err-refusal_line-in-Err-Malformed-clause-memory
+returns-in_err-refusal_line-in-Err-Malformed-clause-memory g c = λ whole held is. Served-memory _ _ whole
+
+pub returns-in-Err-Malformed-clause-ok : goal.returns-in-Err-Malformed-clause-ok
+returns-in-Err-Malformed-clause-ok g c = λ whole held. (
+  refused (Malformed c.in-Err-Malformed.place),
+  Served-faulty _ _ whole c.in-Err-Malformed.place (ap reading_of (sym held) ∙ c.in-Err-Malformed.ensures.malformed c.in-Err-Malformed.place (ap Err c.in-Err-Malformed.field-0-is)),
+  c.in_ok-refusal_line-in-Err-Malformed.ensures,
 )
 
-pub returns-in_default-2-clause-ok : goal.returns-in_default-2-clause-ok
-returns-in_default-2-clause-ok c = λ bytes e. (
-  Refused NotBuilt,
-  answer-unread c.args.org.now bytes _ _ (ap (option_map view) (sym c.in-Some.is) ∙ c.in_ok-json.ensures bytes e) c.in_ok-request.ensures c.in_default-2.is,
-  c.in_ok-refuse-2.ensures,
+pub returns-in-Err-OutOfMemory-clause-memory : goal.returns-in-Err-OutOfMemory-clause-memory
+returns-in-Err-OutOfMemory-clause-memory g c = λ whole held is. Served-memory _ _ whole
+
+pub returns-in_err-refusal_line-clause-memory : goal.returns-in_err-refusal_line-clause-memory
+returns-in_err-refusal_line-clause-memory g c = λ whole held is. Served-memory _ _ whole
+
+pub returns-then-not-is_served-clause-ok : goal.returns-then-not-is_served-clause-ok
+returns-then-not-is_served-clause-ok g c = λ whole held. (
+  refused NotBuilt,
+  Served-later _ _ whole c.in-Ok.read (ap reading_of (sym held) ∙ c.in-Ok.ensures.spelled) (sym c.is_served.ensures ∙ c.if-not-is_served.true),
+  c.in_ok-refusal_line.ensures,
 )
 
 pub returns-clause-ok : goal.returns-clause-ok
-returns-clause-ok c = λ bytes e.
-    rw (← answer-read c.args.org.now bytes _ c.in-Some-2.request (ap (option_map view) (sym c.in-Some.is) ∙ c.in_ok-json.ensures bytes e) (sym c.in-Some-2.is ∙ c.in_ok-request.ensures)) c.serve_request.ensures.ok
+returns-clause-ok g c = λ whole held. IfOk-weaker c.ask.result _ _ (λ line e. (
+  e.0,
+  Served-asked _ whole c.in-Ok.read _ _ _ _ (ap reading_of (sym held) ∙ c.in-Ok.ensures.spelled) (sym c.is_served.ensures ∙ c.if-not-is_served.false) e.1,
+  e.2,
+)) c.ask.ensures.ok
+
+pub returns-clause-clock : goal.returns-clause-clock
+returns-clause-clock g c = λ whole held is.
+    Served-asked _ whole c.in-Ok.read _ _ _ _ (ap reading_of (sym held) ∙ c.in-Ok.ensures.spelled) (sym c.is_served.ensures ∙ c.if-not-is_served.false) (c.ask.ensures.clock is)
+
+pub returns-clause-memory : goal.returns-clause-memory
+returns-clause-memory g c = λ whole held is.
+    Served-asked _ whole c.in-Ok.read _ _ _ _ (ap reading_of (sym held) ∙ c.in-Ok.ensures.spelled) (sym c.is_served.ensures ∙ c.if-not-is_served.false) (c.ask.ensures.memory is)
