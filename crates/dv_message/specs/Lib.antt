@@ -1,0 +1,9 @@
+pub mod Checked
+pub mod Columns
+pub mod Refusing
+pub mod Rights
+pub mod Rows
+pub mod Scenes
+pub mod Showing
+pub mod Sizes
+pub mod Versions

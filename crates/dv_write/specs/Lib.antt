@@ -1,0 +1,6 @@
+pub mod Effects
+pub mod Kept
+pub mod Closures
+pub mod Updating
+pub mod Assigning
+pub mod Deleting

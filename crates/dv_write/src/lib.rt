@@ -1,0 +1,20 @@
+//! The messages that change rows: an update, an assignment, a deletion.
+//!
+//! The request may rest on this: each call answers as its definition in specs/ says, and one that isn't served leaves
+//! the store as it was. The checks of a message stand in one list, in the order in which they are asked. An effect is a
+//! list of changes of rows, by table and id, each of which takes the next version.
+#![tactic(auto)]
+
+mod assigning;
+mod change;
+mod deleting;
+mod editing;
+mod effect;
+mod kept;
+mod reached;
+mod updating;
+
+pub use assigning::assign;
+pub use change::{Change, Edit, Placed};
+pub use deleting::delete;
+pub use updating::update;
