@@ -5,12 +5,20 @@ mod asking;
 mod rows;
 mod scene;
 mod stories;
+mod words;
 
 use case_notation::{Fault, Tally, run};
 use stories::Stories;
 
 // The files of cases. Each begins with what it shows.
-const FILES: [&str; 3] = ["worked", "kinds", "generated"];
+const FILES: [&str; 6] = [
+    "worked",
+    "kinds",
+    "removal",
+    "circles",
+    "large",
+    "generated",
+];
 
 fn main(rt: HostRuntime) -> Result<(), Fault> {
     let mut tally = Tally::new();

@@ -1,5 +1,5 @@
 //! Rows in words: `name=value ..`, a value being an id `#7` or the number of a state. Other columns are empty.
-use crate::scene::id_of;
+use crate::words::id_of;
 use case_notation::Fault;
 use dv_meta::Table;
 use dv_store::Row;

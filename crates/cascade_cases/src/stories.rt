@@ -1,15 +1,12 @@
 //! A case: rows of a store, and questions about them.
-ghost use Rattle.std.specs.Prelude.{◌≡◌, IfOk};
-ghost use Rattle.dv_store.specs.Shapes.{shape_of};
-
 use crate::asking::ask;
 use crate::rows::row_of;
-use crate::scene::{definition_in, key_of, put, table_at};
+use crate::scene::Scene;
+use crate::words::{id_of, key_of, table_at, words_of};
 use case_notation::{Answers, Case, Fault, found};
-use dv_meta::Definition;
-use dv_store::Store;
+use dv_store::RowKey;
 use dv_value::Id;
-use std::alloc::{AllocError, Global};
+use std::alloc::Global;
 
 /// The cases of cascades.
 pub struct Stories;
@@ -20,90 +17,69 @@ impl Answers for Stories {
             return Err(Fault::Wrong("no line"));
         };
         let name = found(first.strip_prefix("over "), "no definition")?;
-        let definition = definition_in(rt, name)?;
-        let store = store_of(rt.alloc(), &definition, lines)?;
-        tell_lines(rt.alloc(), &definition, &store, lines)
+        let mut scene = Scene::read(rt, name)?;
+        fill_all(rt.alloc(), &mut scene, lines)?;
+        tell_lines(rt.alloc(), &scene, lines)
     }
 }
 
-// The store with the rows of a case.
-fn store_of(alloc: Global, definition: &Definition, lines: &[&str]) -> Result<Store, Fault>
-    ensures { IfOk result (λ store. store.present.shape ≡ shape_of definition.now) }
-{
-    let mut store = Store::new(alloc, definition)?;
+// Puts the rows of a case.
+fn fill_all(alloc: Global, scene: &mut Scene, lines: &[&str]) -> Result<(), Fault> {
     for line in lines {
-        fill(alloc, definition, &mut store, line)?;
+        fill(alloc, scene, line)?;
     }
-    Ok(store)
+    Ok(())
 }
 
-// What a line puts into a store.
-fn fill(alloc: Global, definition: &Definition, store: &mut Store, line: &str) -> Result<(), Fault>
-    ensures { store.new.present.shape ≡ store.old.present.shape }
-{
+// What a line puts into the store.
+fn fill(alloc: Global, scene: &mut Scene, line: &str) -> Result<(), Fault> {
     match line.split_once(' ') {
-        Some((">", row)) => put_row(alloc, definition, store, row),
-        Some(("chain", chain)) => put_chain(alloc, definition, store, chain),
+        Some((">", row)) => put_row(alloc, scene, row),
+        Some(("chain", chain)) => put_chain(alloc, scene, chain),
         _ => Ok(()),
     }
 }
 
 // Puts a row of words.
-fn put_row(
-    alloc: Global,
-    definition: &Definition,
-    store: &mut Store,
-    row: &str,
-) -> Result<(), Fault>
-    ensures { store.new.present.shape ≡ store.old.present.shape }
-{
+fn put_row(alloc: Global, scene: &mut Scene, row: &str) -> Result<(), Fault> {
     let words = words_of(alloc, row)?;
-    let [table, id, values @ ..] = words.as_slice() else {
+    let Some((first, values)) = words.as_slice().split_first() else {
         return Err(Fault::Wrong("no row"));
     };
-    let key = key_of(definition, table, id)?;
-    let row = row_of(alloc, table_at(definition, key.table)?, values)?;
-    put(store, key, row)
+    let key = key_of(scene.definition(), first)?;
+    put_at(alloc, scene, key, values)
+}
+
+// Puts a row with values of words.
+fn put_at(alloc: Global, scene: &mut Scene, key: RowKey, values: &[&str]) -> Result<(), Fault> {
+    let row = row_of(alloc, table_at(scene.definition(), key.table)?, values)?;
+    scene.put(key, row)
 }
 
 // Puts rows of a table with ascending ids, each of which names the one before it in a column.
-fn put_chain(
-    alloc: Global,
-    definition: &Definition,
-    store: &mut Store,
-    chain: &str,
-) -> Result<(), Fault>
-    ensures { store.new.present.shape ≡ store.old.present.shape }
-{
+fn put_chain(alloc: Global, scene: &mut Scene, chain: &str) -> Result<(), Fault> {
     let words = words_of(alloc, chain)?;
     let [table, column, first, count] = words.as_slice() else {
         return Err(Fault::Wrong("no chain"));
     };
-    let mut key = key_of(definition, table, first)?;
+    let table = found(scene.definition().table(table), "no table")?;
+    let mut id = id_of(first)?;
     let mut link = String::new(alloc);
     for _ in 0..count.parse::<u32>()? {
-        let row = row_of(alloc, table_at(definition, key.table)?, &[link.as_str()])?;
-        put(store, key, row)?;
+        put_at(alloc, scene, RowKey { table, id }, &[link.as_str()])?;
         link.clear();
-        write!(link, "{column}=#{}", key.id.0)?;
-        key.id = Id(key.id.0.saturating_add(1));
+        write!(link, "{column}=#{}", id.0)?;
+        id = Id(id.0.saturating_add(1));
     }
     Ok(())
 }
 
-// What the questions of a case are answered. The store is of the definition.
-fn tell_lines(
-    alloc: Global,
-    definition: &Definition,
-    store: &Store,
-    lines: &[&str],
-) -> Result<String, Fault>
-    requires { store.now.present.shape ≡ shape_of definition.now }
-{
+// What the questions of a case are answered.
+fn tell_lines(alloc: Global, scene: &Scene, lines: &[&str]) -> Result<String, Fault> {
     let mut out = String::new(alloc);
     for line in lines {
         match line.split_once(' ') {
-            Some(("?", question)) => tell(alloc, definition, store, question, &mut out)?,
+            Some(("?", question)) => tell(alloc, scene, question, &mut out)?,
             Some((">" | "chain", _)) => {}
             _ => return Err(Fault::Wrong("no mark of a case")),
         }
@@ -111,28 +87,11 @@ fn tell_lines(
     Ok(out)
 }
 
-// The words between the blanks of a line.
-fn words_of<'a>(alloc: Global, line: &'a str) -> Result<Vec<&'a str>, AllocError> {
-    let mut words = Vec::new(alloc);
-    for word in line.split(' ') {
-        words.push(word)?;
-    }
-    Ok(words)
-}
-
 // The answer to a question, or `none` where it has no words.
-fn tell(
-    alloc: Global,
-    definition: &Definition,
-    store: &Store,
-    question: &str,
-    out: &mut String,
-) -> Result<(), Fault>
-    requires { store.now.present.shape ≡ shape_of definition.now }
-{
+fn tell(alloc: Global, scene: &Scene, question: &str, out: &mut String) -> Result<(), Fault> {
     let words = words_of(alloc, question)?;
     let mut answer = String::new(alloc);
-    ask(alloc, definition, store, words.as_slice(), &mut answer)?;
+    ask(alloc, scene, words.as_slice(), &mut answer)?;
     match answer.as_str().strip_prefix(' ') {
         Some(answer) => out.push_str(answer)?,
         None => out.push_str("none")?,
