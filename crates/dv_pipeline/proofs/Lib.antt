@@ -1,4 +1,3 @@
-pub mod Fitting
+pub mod Aiming
 pub mod Making
 pub mod Owning
-pub mod Walking

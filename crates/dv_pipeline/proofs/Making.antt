@@ -8,10 +8,12 @@ use Rattle.dv_refusal.specs.declared.refusal.Refusal.TheVariants as answer
 use Rattle.dv_refusal.specs.declared.what.What.TheVariants as what
 use Rattle.dv_store.specs.declared.row.Row.{Row}
 use Rattle.dv_store.specs.Keys.{row_key}
-use Rattle.dv_store.specs.World.{World, row_put, id_drawn, row_total, most_rows, fault_at}
-use Rattle.dv_pipeline.specs.Checked.{AllPass}
+use Rattle.dv_store.specs.World.{World, row_put, bumped, id_drawn, row_total, most_rows, fault_at}
+use Rattle.dv_message.specs.Checked.{AllPass}
 use Rattle.dv_pipeline.specs.Requests.{is_none}
-use Rattle.dv_pipeline.specs.Creating.{Creating, CreationSays, creation_checks, has_no_id, refused_if, new_id, new_row, with_row, drawn, limit_fault, stop_of, IsLimit}
+use Rattle.dv_pipeline.specs.Creating.{Creating, CreationSays, creation_checks, has_no_id, new_id, new_row, with_row, created, drawn, limit_fault, IsLimit}
+use Rattle.dv_message.specs.Checked.{refused_if}
+use Rattle.dv_message.specs.Versions.{stop_of}
 
 abbrev IsNone : Option Refusal → Type 0
 IsNone None = ⊤
@@ -86,3 +88,12 @@ id_limit c last is left none = subst (λ t. IsLimit c (stop_of (fault_at t what.
 
     low : last + 1 ≤ 2 ^ 64 - 1
     low = rw is (omega (arith, leb-false (2 ^ 64 - 1) c.world.last_id (by c.chosen none left)))
+
+-- what is kept of the definition stays
+pub created_keeps : (c : Creating) → (created c).shape ≡ c.world.shape
+unfolding created row_put
+created_keeps c = by c.chosen
+  where
+    by : (chosen : Option Id) → (drawn chosen (bumped (with_row c))).shape ≡ c.world.shape
+    by None = refl
+    by (Some id) = refl

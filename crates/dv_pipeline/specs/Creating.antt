@@ -1,41 +1,41 @@
 -- How a row is made: what is checked, in which order, and what the new row is.
-use Rattle.std.specs.Prelude.{◌≡◌, ◌^◌, ◌+◌, ◌-◌, ◌&&◌, ◌||◌, ℕ, ℤ, pos, ⊤, Bool, true, false, not, List, [], ◌∷◌, ◌++◌, Option, Some, None, Result, IsErr, chars, codes, map, filter, length, if◌then◌else◌, nat_lt, nat_le, encode_utf8_all}
+use Rattle.std.specs.Prelude.{◌≡◌, ◌^◌, ◌+◌, ◌-◌, ◌&&◌, ◌||◌, ℕ, ℤ, pos, ⊤, Bool, false, not, List, [], ◌∷◌, ◌++◌, Option, Some, None, Result, IsErr, map, filter, if◌then◌else◌, nat_lt, nat_le}
 use Rattle.std.specs.Option.{option_map, option_map_or}
-use Rattle.std.specs.Ordering.{on, nat_cmp, is_gt}
-use Rattle.std.specs.declared.cmp.Ordering.{Ordering}
-use Rattle.std.specs.Cmp.Lexicographic.{slice_cmp}
 use Rattle.dv_value.specs.declared.id.Id.{Id}
 use Rattle.dv_value.specs.declared.kind.Kind.TheVariants as kind
 use Rattle.dv_value.specs.declared.raw.Raw.{Raw}
 use Rattle.dv_value.specs.declared.value.Value.{Value}
 use Rattle.dv_value.specs.declared.value.Value.TheVariants as value
 use Rattle.dv_value.specs.Raws.{value_of}
-use Rattle.dv_value.specs.Spelling.{spelling_of}
 use Rattle.dv_refusal.specs.declared.refusal.Refusal.{Refusal}
 use Rattle.dv_refusal.specs.declared.refusal.Refusal.TheVariants as answer
 use Rattle.dv_refusal.specs.declared.what.What.TheVariants as what
 use Rattle.dv_schema.specs.declared.table.Table.{Table}
 use Rattle.dv_schema.specs.declared.table.Column.{Column}
 use Rattle.dv_schema.specs.declared.opening.Action.TheVariants.{Create}
-use Rattle.dv_units.specs.Chart.{Chart, at, is_user, is_unit}
+use Rattle.dv_units.specs.Chart.{Chart}
 use Rattle.dv_roles.specs.State.{State}
 use Rattle.dv_work.specs.History.{History}
 use Rattle.dv_store.specs.Keys.{row_key}
 use Rattle.dv_store.specs.World.{World, row_put, bumped, id_drawn, is_there, row_total, most_rows}
 use Rattle.dv_store.specs.declared.row.Row.{Row}
-use Rattle.dv_store.specs.declared.fault.StoreFault.{StoreFault}
-use Rattle.dv_store.specs.declared.fault.StoreFault.TheVariants.{Limit, OutOfMemory as NoMemory}
+use Rattle.dv_store.specs.declared.fault.StoreFault.TheVariants.{Limit}
 use Rattle.dv_access.specs.Reaches.{Reaches}
 use Rattle.dv_access.specs.Denial.{IsDenial}
 use Rattle.dv_access.specs.declared.denied.Denied.{Denied}
 use Rattle.dv_request.specs.declared.reply.Reply.{Reply}
 use Rattle.dv_request.specs.declared.reply.Reply.TheVariants.{Created}
-use Rattle.dv_pipeline.specs.Columns.{given_by, given_in, own_columns, owner_name, values_fault}
-use Rattle.dv_pipeline.specs.Checked.{Judged}
-use Rattle.dv_pipeline.specs.Requests.{denied_as, is_none}
-use Rattle.dv_pipeline.specs.declared.stop.Stop.{Stop}
-use Rattle.dv_pipeline.specs.declared.stop.Stop.TheVariants.{Refused, OutOfMemory}
-use Rattle.dv_pipeline.specs.declared.creation.Creation.{Creation}
+use Rattle.dv_message.specs.Checked.{Judged, refused_if}
+use Rattle.dv_message.specs.Columns.{first_by_name, given_by, given_in, is_empty, own_columns, owner_name, values_fault}
+use Rattle.dv_message.specs.Refusing.{denied_as}
+use Rattle.dv_message.specs.Rights.{is_owner}
+use Rattle.dv_message.specs.Sizes.{size_fault}
+use Rattle.dv_message.specs.Versions.{next_version}
+use Rattle.dv_message.specs.declared.columns.Writing.TheVariants.{Creation}
+use Rattle.dv_pipeline.specs.Requests.{is_none}
+use Rattle.dv_message.specs.declared.stop.Stop.{Stop}
+use Rattle.dv_message.specs.declared.stop.Stop.TheVariants.{Refused, OutOfMemory}
+use Rattle.dv_pipeline.specs.declared.creation.Creation.{Creation as Made}
 use Rattle.dv_pipeline.specs.declared.creation.CreationCheck.{CreationCheck}
 use Rattle.dv_pipeline.specs.declared.creation.CreationCheck.TheVariants as check
 
@@ -51,11 +51,11 @@ pub record Creating : Type 0 where
   pub values : List (List ℕ × Raw)
 
 -- a creation in a world
-abbrev pub creating_in : World → Creation → Creating
+abbrev pub creating_in : World → Made → Creating
 creating_in w c = record { directory = c.directory.now; world = w; number = c.number; table = c.table.now; user = c.user; moment = c.moment; chosen = c.chosen; values = c.values.now }
 
 -- a creation in the present world of a store
-abbrev pub creating : History World → Creation → Creating
+abbrev pub creating : History World → Made → Creating
 creating h c = creating_in h.present c
 
 -- the id that a value names; else another
@@ -78,17 +78,9 @@ new_id c = chosen_or c.chosen
     chosen_or (Some id) = id
     chosen_or None = record { 0 = c.world.last_id + 1 }
 
--- whether an id is that of an owner team, as the default team of a unit is one
-abbrev pub is_owner_team : Chart → Id → Bool
-is_owner_team chart id = option_map_or (λ team. not team.access) (at chart.teams id) (is_unit chart id)
-
--- whether an id is that of a user or of an owner team
-abbrev pub can_own : Chart → Id → Bool
-can_own chart id = is_user chart id || is_owner_team chart id
-
 -- whether an owner may not be one
 abbrev pub is_bad_owner : Chart → Option Id → Bool
-is_bad_owner chart owner = option_map_or (λ id. not (can_own chart id)) owner false
+is_bad_owner chart owner = option_map_or (λ id. not (is_owner chart id)) owner false
 
 -- the first id that callers may choose
 abbrev pub first_free : ℕ
@@ -102,28 +94,9 @@ is_reserved chosen = option_map_or (λ id. nat_lt id.0 first_free) chosen false
 abbrev pub has_no_id : Creating → Bool
 has_no_id c = is_none c.chosen && nat_le (2 ^ 64 - 1) c.world.last_id
 
--- whether a value is empty
-abbrev pub is_empty : Value → Bool
-is_empty value.Empty = true
-is_empty value = false
-
 -- whether a column must have a value and gets none
 abbrev pub is_missing : List (List ℕ × Raw) → Column → Bool
 is_missing values column = column.required && is_empty (given_in values column)
-
--- names in the order of their bytes
-abbrev pub name_cmp : List ℕ → List ℕ → Ordering
-name_cmp = on encode_utf8_all (slice_cmp nat_cmp)
-
--- the one of two columns whose name comes first in byte order
-abbrev pub earlier : Column → Option Column → Column
-earlier column None = column
-earlier column (Some other) = if is_gt (name_cmp column.name other.name) then other else column
-
--- of some columns the first by name
-unfoldable pub first_by_name : List Column → Option Column
-first_by_name [] = None
-first_by_name (column ∷ columns) = Some (earlier column (first_by_name columns))
 
 -- a column that must have a value and gets none is missing; the first of them by name is told
 unfoldable pub missing_fault : List (List ℕ × Raw) → List Column → Option Refusal
@@ -133,10 +106,6 @@ missing_fault values columns = option_map (λ column. answer.RequiredMissing col
 abbrev pub owner_values : Option Id → List Value
 owner_values None = []
 owner_values (Some id) = value.Ref id ∷ []
-
--- the next version; there is none where the counter stands at its end, and no row is made then
-abbrev pub next_version : World → ℕ
-next_version w = if nat_lt (2 ^ 63 - 1) (w.version + 1) then 0 else w.version + 1
 
 -- the values that the service keeps of a new row: who made it and when, who changed it and when, its owner, that it is
 -- active, and its version
@@ -151,19 +120,6 @@ own_values table values = map (given_in values) (own_columns table)
 -- the new row
 unfoldable pub new_row : Creating → Row
 new_row c = record { values = system_values c ++ own_values c.table c.values }
-
--- how many bytes a value takes
-abbrev pub size_of : Value → ℕ
-size_of value = length (spelling_of value)
-
--- how many bytes values take together
-unfoldable pub sizes_of : List Value → ℕ
-sizes_of [] = 0
-sizes_of (value ∷ values) = size_of value + sizes_of values
-
--- the most bytes that a row takes
-abbrev pub most_bytes : ℕ
-most_bytes = 4096
 
 -- the world with the new row in it
 abbrev pub with_row : Creating → World
@@ -183,20 +139,10 @@ unfoldable pub limit_fault : Creating → Option Refusal
 limit_fault c = if nat_lt most_rows (row_total (with_row c)) then Some (answer.Limit what.Row)
     else if nat_lt (2 ^ 63 - 1) (c.world.version + 1) then Some (answer.Limit what.Version) else None
 
--- what a fault of the store means to a caller
-unfoldable pub stop_of : StoreFault → Stop
-stop_of (Limit what) = Refused (answer.Limit what)
-stop_of NoMemory = OutOfMemory
-
 -- why the change isn't made: the limit that it would go past, or that memory ran out
 abbrev pub IsLimit : Creating → Stop → Type 0
 IsLimit c (Refused refusal) = limit_fault c ≡ Some refusal
 IsLimit c OutOfMemory = ⊤
-
--- a refusal where a test holds
-abbrev pub refused_if : Bool → Refusal → Option Refusal
-refused_if true refusal = Some refusal
-refused_if false refusal = None
 
 -- what the privilege to make rows of the table says: the user has it for the owner of the new row, or is denied
 abbrev pub MayCreate : State → Id → ℕ → Table → Option Id → Option Refusal → Type 0
@@ -206,14 +152,14 @@ MayCreate d user number table owner (Some refusal) = (Reaches d user Create numb
 
 -- what each check says
 unfoldable pub CreationSays : Creating → CreationCheck → Option Refusal → Type 0
-CreationSays c check.Values refusal = refusal ≡ values_fault c.table.columns c.values
+CreationSays c check.Values refusal = refusal ≡ values_fault Creation c.table.columns c.values
 CreationSays c check.ChosenId refusal = refusal ≡ refused_if (is_reserved c.chosen) answer.ReservedId
 CreationSays c check.NextId refusal = refusal ≡ refused_if (has_no_id c) (answer.Limit what.Id)
 CreationSays c check.Owner refusal = refusal ≡ refused_if (is_bad_owner c.directory.chart (new_owner c)) answer.BadPrincipal
 CreationSays c check.Privilege refusal = MayCreate c.directory c.user c.number c.table (new_owner c) refusal
 CreationSays c check.Required refusal = refusal ≡ missing_fault c.values (own_columns c.table)
 CreationSays c check.FreeId refusal = refusal ≡ refused_if (is_there c.world.rows (row_key c.number (new_id c))) answer.IdTaken
-CreationSays c check.Size refusal = refusal ≡ refused_if (nat_lt most_bytes (sizes_of (new_row c).values)) (answer.OutOfRange (chars (codes "row")))
+CreationSays c check.Size refusal = refusal ≡ size_fault (new_row c).values
 
 -- the checks, in their order
 abbrev pub creation_checks : List CreationCheck

@@ -1,5 +1,5 @@
 -- What a query shows: the rows of its table that the caller may read, and nothing of any other.
-use Rattle.std.specs.Prelude.{◌≡◌, ◌⊎◌, ◌+◌, ◌≤◌, ◌<◌, ◌++◌, ℕ, Bool, true, false, not, List, [], ◌∷◌, Option, Some, None, Result, codes, length, chars}
+use Rattle.std.specs.Prelude.{◌≡◌, ◌⊎◌, ◌+◌, ◌≤◌, ◌<◌, ◌++◌, ℕ, false, List, [], ◌∷◌, Option, Some, None, Result, codes, length, chars}
 use Rattle.std.specs.Fmt.{decimal}
 use Rattle.dv_value.specs.declared.id.Id.{Id}
 use Rattle.dv_value.specs.declared.raw.Raw.{Raw}
@@ -16,10 +16,10 @@ use Rattle.dv_access.specs.View.{View, view_of, AreExactly}
 use Rattle.dv_access.specs.declared.denied.Why.TheVariants.{NoPrivilege}
 use Rattle.dv_request.specs.declared.reply.Reply.{Reply}
 use Rattle.dv_request.specs.declared.reply.Reply.TheVariants.{Page}
-use Rattle.dv_pipeline.specs.Checked.{Judged}
-use Rattle.dv_pipeline.specs.Columns.{column_of}
-use Rattle.dv_pipeline.specs.Requests.{denied_as}
-use Rattle.dv_pipeline.specs.Showing.{asked_from, IsShownRow}
+use Rattle.dv_message.specs.Checked.{Judged}
+use Rattle.dv_message.specs.Columns.{column_of}
+use Rattle.dv_message.specs.Refusing.{denied_as}
+use Rattle.dv_message.specs.Showing.{asked_from, IsShownRow}
 use Rattle.dv_pipeline.specs.declared.query.Asked.{Asked}
 use Rattle.dv_pipeline.specs.declared.query.QueryCheck.{QueryCheck}
 use Rattle.dv_pipeline.specs.declared.query.QueryCheck.TheVariants as check

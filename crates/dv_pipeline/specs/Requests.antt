@@ -1,36 +1,18 @@
--- Which requests are served, whom they are refused before anything else is asked, and how a denial is told.
-use Rattle.std.specs.Prelude.{◌++◌, ◌&&◌, ℕ, pos, Bool, true, false, not, List, [], ◌∷◌, Option, Some, None, codes, if◌then◌else◌, chars, encode_utf8_all}
+-- Which requests are served, and whom they are refused before anything else is asked.
+use Rattle.std.specs.Prelude.{◌&&◌, pos, Bool, true, false, not, List, [], ◌∷◌, Option, Some, None, if◌then◌else◌}
 use Rattle.std.specs.Option.{option_map, option_or}
 use Rattle.std.specs.Ordering.{int_eq}
 use Rattle.dv_value.specs.declared.id.Id.{Id}
 use Rattle.dv_refusal.specs.declared.refusal.Refusal.{Refusal}
 use Rattle.dv_refusal.specs.declared.refusal.Refusal.TheVariants as refusal
-use Rattle.dv_schema.specs.declared.table.Table.{Table}
-use Rattle.dv_schema.specs.Words.{action_word}
 use Rattle.dv_units.specs.Chart.{at}
 use Rattle.dv_roles.specs.State.{State}
-use Rattle.dv_access.specs.declared.denied.Denied.{Denied}
-use Rattle.dv_access.specs.declared.denied.Why.{Why}
-use Rattle.dv_access.specs.declared.denied.Why.TheVariants.{NoPrivilege, OutOfReach}
 use Rattle.dv_query.specs.declared.query.Query.{Query}
 use Rattle.dv_query.specs.declared.query.Part.{Part}
 use Rattle.dv_query.specs.declared.query.Part.TheVariants.{Top, Page}
 use Rattle.dv_query.specs.declared.query.PageStart.TheVariants.{Number, Cookie}
 use Rattle.dv_request.specs.declared.request.Request.{Request}
 use Rattle.dv_request.specs.declared.request.Request.TheVariants as request
-
--- the privilege to do an action on a table: `prv`, the action, the table
-abbrev pub privilege_name : List ℕ → List ℕ → List ℕ
-privilege_name action table = chars (codes "prv" ++ action ++ encode_utf8_all table)
-
--- the words for why an action is denied
-unfoldable pub why_word : Why → List ℕ
-why_word NoPrivilege = codes "NoPrivilege"
-why_word OutOfReach = codes "OutOfReach"
-
--- a denial, as it is told
-unfoldable pub denied_as : Table → Denied → Refusal
-denied_as table denied = refusal.Denied (privilege_name (action_word denied.action) table.name) (chars (why_word denied.why))
 
 -- the first page of the largest size, where no total is asked for
 unfoldable pub is_plain : Part → Bool
@@ -54,6 +36,15 @@ is_plain_query q = is_none q.filter && is_nothing q.links && is_nothing q.orders
 -- whether a request is served among those on rows
 unfoldable pub is_built : Request → Bool
 is_built (request.Create table id values) = true
+is_built (request.Retrieve table id columns) = true
+is_built (request.Update table id values version) = true
+is_built (request.Delete table id version) = true
+is_built (request.Assign table id owner) = true
+is_built (request.Grant table id principal rights) = true
+is_built (request.Modify table id principal rights) = true
+is_built (request.Revoke table id principal) = true
+is_built (request.Access table id user) = true
+is_built (request.Shares table id) = true
 is_built (request.Query query) = is_plain_query query
 is_built request.WhoAmI = true
 is_built _ = false

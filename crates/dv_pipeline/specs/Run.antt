@@ -1,11 +1,9 @@
 -- What one request on rows does: the world after it, and its reply or refusal.
-use Rattle.std.specs.Prelude.{◌≡◌, ℕ, ℤ, List, [], ◌∷◌, Option, Some, None, Result, Ok, Err, slice_get, encode_utf8_all}
-use Rattle.std.specs.Option.{option_and_then, option_map}
+use Rattle.std.specs.Prelude.{◌≡◌, ℕ, ℤ, List, [], ◌∷◌, Option, Some, None, Result, Ok, Err}
 use Rattle.dv_value.specs.declared.id.Id.{Id}
 use Rattle.dv_refusal.specs.declared.refusal.Refusal.{Refusal}
 use Rattle.dv_refusal.specs.declared.refusal.Refusal.TheVariants as refusal
 use Rattle.dv_schema.specs.declared.definition.Definition.{Definition}
-use Rattle.dv_schema.specs.Definitions.{tables_of, table_of_bytes}
 use Rattle.dv_schema.specs.declared.table.Table.{Table}
 use Rattle.dv_units.specs.Chart.{Chart}
 use Rattle.dv_units.specs.Membership.{unit_of, IsNextTeam}
@@ -16,13 +14,18 @@ use Rattle.dv_request.specs.declared.reply.Reply.{Reply}
 use Rattle.dv_request.specs.declared.reply.Reply.TheVariants.{Caller}
 use Rattle.dv_request.specs.declared.request.Request.{Request}
 use Rattle.dv_request.specs.declared.request.Request.TheVariants as request
+use Rattle.dv_message.specs.Scenes.{Setting, Targeted, table_at, aimed_at, IsRefused, OnRow}
+use Rattle.dv_grant.specs.Retrieving.{RunsRetrieve}
+use Rattle.dv_grant.specs.Accessing.{RunsAccess}
+use Rattle.dv_grant.specs.Listing.{RunsShares}
+use Rattle.dv_grant.specs.Granting.{RunsGrant, RunsModify}
+use Rattle.dv_grant.specs.Revoking.{RunsRevoke}
+use Rattle.dv_write.specs.Updating.{RunsUpdate}
+use Rattle.dv_write.specs.Assigning.{RunsAssign}
+use Rattle.dv_write.specs.Deleting.{RunsDelete}
 use Rattle.dv_pipeline.specs.Requests.{start_fault}
 use Rattle.dv_pipeline.specs.Creating.{Creating, RunsCreating}
 use Rattle.dv_pipeline.specs.Querying.{Querying, Sight, sight_of, RunsQuerying}
-
--- the table of a name, with its number
-unfoldable pub table_at : Definition → List ℕ → Option (ℕ × Table)
-table_at d name = option_and_then (λ number. option_map (λ table. (number, table)) (slice_get (tables_of d) number)) (table_of_bytes d (encode_utf8_all name))
 
 -- the teams of a user past one of them, or all: the first, then the first past that, until there is none
 unfoldable pub AreTeams : Chart → Id → Option Id → List Id → Type 0
@@ -32,10 +35,6 @@ AreTeams chart user after (team ∷ teams) = IsNextTeam chart user after (Some t
 -- what a caller is told of itself: its business unit, and its teams in ascending order
 abbrev pub TellsCaller : State → Id → Reply → Type 0
 TellsCaller d user reply = (unit : Id) × (teams : List Id) × (unit_of d.chart user ≡ Some unit) × AreTeams d.chart user None teams × (reply ≡ Caller user unit teams)
-
--- a refusal, which leaves the world
-abbrev pub IsRefused : Refusal → World → World → Result Reply Refusal → Type 0
-IsRefused refusal old new outcome = (outcome ≡ Err refusal) × (new ≡ old)
 
 -- the creation of a row
 unfoldable pub RunsCreation : Option (ℕ × Table) → State → World → Id → ℤ → List ℕ → Option Id → List (List ℕ × Rattle.dv_value.specs.declared.raw.Raw.Raw) → World → Result Reply Refusal → Type 0
@@ -51,12 +50,25 @@ RunsQuery (Some found) sight name names outcome =
     let q : Querying = record { sight = sight; number = found.0; table = found.1; names = names } in
     RunsQuerying q outcome
 
+-- the row that a message names by its table's name and its id; a table that isn't there is told first
+abbrev pub OnNamed : Setting → World → List ℕ → Id → World → Result Reply Refusal → (Targeted → Type 0) → Type 0
+OnNamed s old name id new outcome Does = OnRow (aimed_at s old name id) name old new outcome Does
+
 -- what a request that is served does
-unfoldable pub Plays : Definition → State → World → Id → ℤ → Request → World → Result Reply Refusal → Type 0
-Plays definition d old user moment (request.Create name chosen values) new outcome = RunsCreation (table_at definition name) d old user moment name chosen values new outcome
-Plays definition d old user moment (request.Query query) new outcome = RunsQuery (table_at definition query.table) (sight_of d (told_of old) user) query.table query.columns outcome × (new ≡ old)
-Plays definition d old user moment request.WhoAmI new outcome = ((reply : Reply) × (outcome ≡ Ok reply) × TellsCaller d user reply) × (new ≡ old)
-Plays definition d old user moment other new outcome = IsRefused refusal.NotBuilt old new outcome
+unfoldable pub Plays : Setting → World → Request → World → Result Reply Refusal → Type 0
+Plays s old (request.Create name chosen values) new outcome = RunsCreation (table_at s.definition name) s.directory old s.user s.moment name chosen values new outcome
+Plays s old (request.Retrieve name id names) new outcome = OnNamed s old name id new outcome (λ t. RunsRetrieve (record { target = t; names = names }) outcome × (new ≡ old))
+Plays s old (request.Update name id values version) new outcome = OnNamed s old name id new outcome (λ t. RunsUpdate (record { target = t; values = values; version = version }) new outcome)
+Plays s old (request.Delete name id version) new outcome = OnNamed s old name id new outcome (λ t. RunsDelete (record { target = t; version = version }) new outcome)
+Plays s old (request.Assign name id owner) new outcome = OnNamed s old name id new outcome (λ t. RunsAssign (record { target = t; owner = owner }) new outcome)
+Plays s old (request.Grant name id principal rights) new outcome = OnNamed s old name id new outcome (λ t. RunsGrant (record { target = t; principal = principal; rights = rights }) new outcome)
+Plays s old (request.Modify name id principal rights) new outcome = OnNamed s old name id new outcome (λ t. RunsModify (record { target = t; principal = principal; rights = rights }) new outcome)
+Plays s old (request.Revoke name id principal) new outcome = OnNamed s old name id new outcome (λ t. RunsRevoke (record { target = t; principal = principal }) new outcome)
+Plays s old (request.Access name id user) new outcome = OnNamed s old name id new outcome (λ t. RunsAccess (record { target = t; user = user }) outcome × (new ≡ old))
+Plays s old (request.Shares name id) new outcome = OnNamed s old name id new outcome (λ t. RunsShares t outcome × (new ≡ old))
+Plays s old (request.Query query) new outcome = RunsQuery (table_at s.definition query.table) (sight_of s.directory (told_of old) s.user) query.table query.columns outcome × (new ≡ old)
+Plays s old request.WhoAmI new outcome = ((reply : Reply) × (outcome ≡ Ok reply) × TellsCaller s.directory s.user reply) × (new ≡ old)
+Plays s old other new outcome = IsRefused refusal.NotBuilt old new outcome
 
 -- a request: what refuses it at the start does, or else it is served
 unfoldable pub Starts : Option Refusal → World → World → Result Reply Refusal → Type 0 → Type 0
@@ -64,4 +76,6 @@ Starts (Some refusal) old new outcome served = IsRefused refusal old new outcome
 Starts None old new outcome served = served
 
 unfoldable pub Runs : Definition → State → World → Id → ℤ → Request → World → Result Reply Refusal → Type 0
-Runs definition d old user moment request new outcome = Starts (start_fault d user request) old new outcome (Plays definition d old user moment request new outcome)
+Runs definition d old user moment request new outcome =
+    let s : Setting = record { directory = d; definition = definition; user = user; moment = moment } in
+    Starts (start_fault d user request) old new outcome (Plays s old request new outcome)

@@ -9,8 +9,9 @@ use Rattle.dv_request.specs.declared.request.Request.{Request}
 use Rattle.dv_store.specs.World.{World}
 use Rattle.dv_store.specs.Cursors.{told_of}
 use Rattle.dv_pipeline.specs.Querying.{sight_of}
-use Rattle.dv_pipeline.specs.Run.{table_at, RunsCreation, RunsQuery, Plays}
-use Rattle.dv_pipeline.specs.declared.executing.Scene.{Scene}
+use Rattle.dv_message.specs.Scenes.{setting_of, table_at}
+use Rattle.dv_pipeline.specs.Run.{RunsCreation, RunsQuery, Plays}
+use Rattle.dv_message.specs.declared.scene.Scene.{Scene}
 
 abbrev pub creation_in : Scene → World → List ℕ → Option Id → List (List ℕ × Raw) → World → Result Reply Refusal → Type 0
 creation_in s old name chosen values new outcome = RunsCreation (table_at s.definition.now name) s.directory.now old s.user s.moment name chosen values new outcome
@@ -19,4 +20,4 @@ abbrev pub query_in : Scene → World → Query → Result Reply Refusal → Typ
 query_in s old query outcome = RunsQuery (table_at s.definition.now query.table) (sight_of s.directory.now (told_of old) s.user) query.table query.columns outcome
 
 abbrev pub play_in : Scene → World → Request → World → Result Reply Refusal → Type 0
-play_in s old request new outcome = Plays s.definition.now s.directory.now old s.user s.moment request new outcome
+play_in s old request new outcome = Plays (setting_of s) old request new outcome

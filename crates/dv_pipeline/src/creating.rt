@@ -1,45 +1,17 @@
 //! The creation of a row: it is checked, then made.
-ghost use Rattle.std.specs.Prelude.{◌≡◌, IfOk, OnOk, OnErr, IfErr, None, Ok, Err, pos, false};
+ghost use Rattle.std.specs.Prelude.{◌≡◌, IfOk, OnOk, OnErr, IfErr, None, Ok, Err, false};
 ghost use Rattle.dv_work.specs.History.{Extends};
-ghost use Rattle.dv_pipeline.specs.Creating.{creating, system_values, new_row, next_version, created, limit_fault, has_no_id, new_id, stop_of, RunsCreating, IsLimit};
+ghost use Rattle.dv_pipeline.specs.Creating.{creating, system_values, new_row, created, limit_fault, has_no_id, new_id, RunsCreating, IsLimit};
 ghost use Rattle.dv_refusal.specs.declared.refusal.Refusal.{Refusal as Answer};
-ghost use Rattle.dv_pipeline.specs.declared.stop.Stop.TheVariants.{Refused};
+ghost use Rattle.dv_message.specs.declared.stop.Stop.TheVariants.{Refused};
 
-use crate::columns::{own_columns, own_values};
 use crate::creation::{CREATION_CHECKS, Creation};
-use crate::stop::Stop;
-use dv_refusal::Refusal;
+use dv_message::{Stop, next_version, own_columns, own_values, stop_of};
 use dv_request::Reply;
-use dv_store::{Row, Store, StoreFault};
+use dv_store::{Row, Store};
 use dv_value::{Id, Value};
 use sqlite_items::Items;
 use std::alloc::{AllocError, Global};
-
-/// The largest version: 2^63 - 1.
-const LAST_VERSION: u64 = 9_223_372_036_854_775_807;
-
-/// The next version; 0 where there is none.
-fn next_version(store: &Store) -> i64
-    ensures { result ≡ pos (next_version store.now.present) }
-{
-    let version = store.numbers().version;
-    if version >= LAST_VERSION {
-        0
-    } else {
-        version as i64 + 1
-    }
-}
-
-/// What a fault of the store means to the caller.
-#[tactic(auto, unfolding(crate::specs::Creating::stop_of))]
-fn stop_of(fault: StoreFault) -> Stop
-    ensures { result ≡ stop_of fault }
-{
-    match fault {
-        StoreFault::Limit(what) => Stop::Refused(Refusal::Limit { what }),
-        StoreFault::OutOfMemory => Stop::OutOfMemory,
-    }
-}
 
 /// The values that the service keeps of a new row.
 fn system_values(
@@ -50,8 +22,9 @@ fn system_values(
     ensures { IfOk result (λ values. values
         ≡ system_values (creating store.now creation.now)) }
 {
+    let maker = creation.user;
     let mut values = Items::new(alloc);
-    values.push(Value::Ref(creation.user))?;
+    values.push(Value::Ref(maker))?;
     values.push(Value::Moment(creation.moment))?;
     values.push(Value::Ref(creation.user))?;
     values.push(Value::Moment(creation.moment))?;
@@ -100,6 +73,7 @@ fn attempt(store: &mut Store, creation: &Creation<'_>, id: Id, row: Row) -> Resu
 }
 
 /// The same, whole or not at all.
+#[tactic(auto, using(crate::proofs::Making::created_keeps))]
 fn make(store: &mut Store, creation: &Creation<'_>, id: Id, row: Row) -> Result<(), Stop>
     requires row { row ≡ new_row (creating store.old creation.now) }
     requires id { id ≡ new_id (creating store.old creation.now) }
@@ -108,6 +82,7 @@ fn make(store: &mut Store, creation: &Creation<'_>, id: Id, row: Row) -> Result<
     ensures within { OnOk result (limit_fault (creating store.old creation.now) ≡ None) }
     ensures err { IfErr result (IsLimit (creating store.old creation.now)) }
     ensures extends { OnOk result (Extends store.old store.new) }
+    ensures shape { OnOk result (store.new.present.shape ≡ store.old.present.shape) }
     ensures kept { OnErr result (store.new ≡ store.old) }
 {
     let start = store.mark();
@@ -131,6 +106,7 @@ pub(crate) fn create(
     ensures refused { (refusal : Answer) → result ≡ Err (Refused refusal)
         → RunsCreating (creating store.old creation.now) store.old.present (Err refusal) }
     ensures extends { OnOk result (Extends store.old store.new) }
+    ensures shape { OnOk result (store.new.present.shape ≡ store.old.present.shape) }
     ensures kept { OnErr result (store.new ≡ store.old) }
 {
     let row = new_row(alloc, creation, store)?;

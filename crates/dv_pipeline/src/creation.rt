@@ -1,26 +1,25 @@
 //! A creation, and each check that is made of it.
-ghost use Rattle.std.specs.Prelude.{◌≡◌, IfOk, chars, codes, false, filter, nat_lt};
+ghost use Rattle.std.specs.Prelude.{◌≡◌, IfOk, filter};
 ghost use Rattle.std.specs.Option.{option_copied};
-ghost use Rattle.dv_units.specs.Chart.{is_user};
 ghost use Rattle.dv_store.specs.Keys.{row_key};
 ghost use Rattle.dv_store.specs.World.{is_there, World};
-ghost use Rattle.dv_pipeline.specs.Checked.{Answers, Walked};
-ghost use Rattle.dv_pipeline.specs.Columns.{own_columns, owner_name, given_by};
-ghost use Rattle.dv_pipeline.specs.Creating.{creating_in, id_in, owner_in, new_id, is_owner_team, can_own, is_bad_owner, is_reserved, has_no_id, is_missing, is_empty, new_row, most_bytes, sizes_of, refused_if, earlier, first_by_name, missing_fault, MayCreate, CreationSays, creation_checks};
+ghost use Rattle.dv_message.specs.Checked.{Answers, Walked, refused_if};
+ghost use Rattle.dv_message.specs.Columns.{first_by_name, own_columns, owner_name, given_by};
+ghost use Rattle.dv_pipeline.specs.Creating.{creating_in, id_in, owner_in, new_id, is_bad_owner, is_reserved, has_no_id, is_missing, new_row, missing_fault, MayCreate, CreationSays, creation_checks};
 ghost use Rattle.dv_refusal.specs.declared.refusal.Refusal.TheVariants as answer;
 ghost use Rattle.dv_refusal.specs.declared.what.What.TheVariants as what;
 
-use crate::columns::{check_values, given_by, own_columns};
-use crate::requests::{answer, denied};
-use crate::size::is_too_large;
-use crate::stop::Stop;
 use dv_access::check_new;
+use dv_message::{
+    Stop, Writing, check_size, check_values, denied, earlier, given_by, is_empty, is_owner,
+    own_columns, refused_if,
+};
 use dv_refusal::{Refusal, What};
 use dv_roles::Directory;
 use dv_schema::{Action, Column, Table};
 use dv_store::{Row, Store};
 use dv_units::Units;
-use dv_value::{Id, Kind, Text, Value, Values};
+use dv_value::{Id, Kind, Value, Values};
 use std::alloc::{AllocError, Global};
 
 /// The first id that callers may choose: 2^64. The service gives those below it.
@@ -71,41 +70,12 @@ pub(crate) const CREATION_CHECKS: [CreationCheck; 8] = [
     CreationCheck::Size,
 ];
 
-/// A refusal where a test holds.
-fn refused_if(test: bool, refusal: Refusal) -> Result<(), Stop>
-    ensures { Answers (λ said. said ≡ refused_if test refusal) result }
-{
-    if test { answer(Some(refusal)) } else { Ok(()) }
-}
-
-/// Whether an id that is no user's is that of an owner team.
-#[tactic(auto, using(crate::proofs::Owning::unit_of_is))]
-fn is_owner_team(units: &Units, id: Id) -> bool
-    requires { is_user units.now id ≡ false }
-    ensures { result ≡ is_owner_team units.now id }
-{
-    match units.access(id) {
-        Some(access) => !access,
-        None => units.unit_of(id).is_some(),
-    }
-}
-
-/// Whether an id is that of a user or of an owner team.
-fn can_own(units: &Units, id: Id) -> bool
-    ensures { result ≡ can_own units.now id }
-{
-    if units.enabled(id).is_some() {
-        return true;
-    }
-    is_owner_team(units, id)
-}
-
 /// Whether an owner may not be one.
 fn is_bad_owner(units: &Units, owner: Option<Id>) -> bool
     ensures { result ≡ is_bad_owner units.now owner }
 {
     match owner {
-        Some(id) => !can_own(units, id),
+        Some(id) => !is_owner(units, id),
         None => false,
     }
 }
@@ -130,26 +100,6 @@ fn id_in(value: &Value, other: Id) -> Id
     }
 }
 
-/// Whether a value is empty.
-fn is_empty(value: &Value) -> bool
-    ensures { result ≡ is_empty value.now }
-{
-    match value {
-        Value::Empty => true,
-        _ => false,
-    }
-}
-
-/// The one of two columns whose name comes first in byte order.
-fn earlier<'a>(column: &'a Column, other: Option<&'a Column>) -> &'a Column
-    ensures { result.now ≡ earlier column.now (option_copied other.entry) }
-{
-    match other {
-        Some(other) if column.name > other.name => other,
-        _ => column,
-    }
-}
-
 /// Whether a column must have a value and gets none.
 fn is_missing(alloc: Global, values: &Values, column: &Column) -> Result<bool, AllocError>
     ensures { IfOk result (λ missing. missing ≡ is_missing values.now column.now) }
@@ -162,7 +112,7 @@ fn is_missing(alloc: Global, values: &Values, column: &Column) -> Result<bool, A
 }
 
 /// Of the columns that must have a value and get none the first by name.
-#[tactic(auto, unfolding(crate::specs::Creating::first_by_name))]
+#[tactic(auto, unfolding(dv_message::specs::Columns::first_by_name))]
 fn first_missing<'a>(
     alloc: Global,
     values: &Values,
@@ -259,19 +209,6 @@ impl Creation<'_> {
         refused_if(is_taken, Refusal::IdTaken)
     }
 
-    /// Checks that the row isn't too large.
-    fn check_size(&self, alloc: Global, row: &Row) -> Result<(), Stop>
-        ensures { Answers (λ said. said ≡ refused_if (nat_lt most_bytes (sizes_of row.now.values))
-            (answer.OutOfRange (chars (codes "row")))) result }
-    {
-        if !is_too_large(row.values.as_slice()) {
-            return Ok(());
-        }
-        Err(Stop::Refused(Refusal::OutOfRange {
-            column: Text::from_str(alloc, "row")?,
-        }))
-    }
-
     /// Makes one of the checks. The new row is at hand.
     #[tactic(auto, unfolding(crate::specs::Creating::CreationSays))]
     fn judge(
@@ -287,6 +224,7 @@ impl Creation<'_> {
         match check {
             CreationCheck::Values => check_values(
                 alloc,
+                Writing::Creation,
                 self.table.columns.as_slice(),
                 self.values.as_slice(),
             ),
@@ -299,12 +237,12 @@ impl Creation<'_> {
             CreationCheck::Privilege => self.check_privilege(alloc),
             CreationCheck::Required => self.check_required(alloc),
             CreationCheck::FreeId => self.check_free_id(store),
-            CreationCheck::Size => self.check_size(alloc, row),
+            CreationCheck::Size => check_size(alloc, row.values.as_slice()),
         }
     }
 
     /// Makes checks in their order, up to the first that fails.
-    #[tactic(auto, unfolding(crate::specs::Checked::AllPass, crate::specs::Checked::FirstSays))]
+    #[tactic(auto, unfolding(dv_message::specs::Checked::AllPass, dv_message::specs::Checked::FirstSays))]
     pub fn judge_all(
         &self,
         alloc: Global,

@@ -1,59 +1,30 @@
 //! One request on rows.
 ghost use Rattle.std.specs.Prelude.{◌≡◌, IfOk, IfErr, OnOk, OnErr, Ok, Err, None};
-ghost use Rattle.std.specs.Option.{option_map};
 ghost use Rattle.dv_work.specs.History.{Extends};
+ghost use Rattle.dv_store.specs.Shapes.{shape_of};
 ghost use Rattle.dv_pipeline.specs.Requests.{caller_fault};
-ghost use Rattle.dv_pipeline.specs.Run.{table_at, TellsCaller, Runs};
+ghost use Rattle.dv_pipeline.specs.Run.{TellsCaller, Runs};
 ghost use Rattle.dv_pipeline.specs.Scenes.{creation_in, query_in, play_in};
 ghost use Rattle.dv_refusal.specs.declared.refusal.Refusal.{Refusal as Answer};
-ghost use Rattle.dv_refusal.specs.declared.refusal.Refusal.TheVariants as Unknown;
-ghost use Rattle.dv_pipeline.specs.declared.stop.Stop.TheVariants.{Refused, OutOfMemory};
+ghost use Rattle.dv_message.specs.declared.stop.Stop.TheVariants.{Refused, OutOfMemory};
 
 use crate::caller::tell_caller;
 use crate::creating::create;
 use crate::creation::Creation;
 use crate::query::Asked;
 use crate::querying::answer_query;
+use crate::reading::{run_access, run_retrieve, run_shares};
 use crate::requests::start_fault;
-use crate::stop::Stop;
+use crate::writing::{run_assign, run_delete, run_grant, run_modify, run_revoke, run_update};
+use dv_message::{Scene, Stop, table_at, unknown_table};
 use dv_query::Query;
 use dv_refusal::Refusal;
 use dv_request::{Reply, Request};
 use dv_roles::Directory;
-use dv_schema::{Definition, Table};
+use dv_schema::Definition;
 use dv_store::Store;
 use dv_value::{Id, Text, Values};
 use std::alloc::Global;
-
-/// The table of a name, with its number.
-#[tactic(auto, unfolding(crate::specs::Run::table_at))]
-fn table_at<'a>(definition: &'a Definition, name: &Text) -> Option<(u16, &'a Table)>
-    ensures { option_map (λ found. (found.0, found.1.now)) result ≡ table_at definition.now name.now }
-{
-    let number = definition.table(name.as_str())?;
-    let table = definition.tables().get(usize::from(number))?;
-    Some((number, table))
-}
-
-/// The refusal of a table that isn't there.
-fn unknown_table(alloc: Global, name: &Text) -> Stop
-    ensures { (refusal : Answer) → result ≡ Refused refusal
-        → refusal ≡ Unknown.UnknownTable name.now }
-{
-    match name.copy(alloc) {
-        Ok(table) => Stop::Refused(Refusal::UnknownTable { table }),
-        Err(_) => Stop::OutOfMemory,
-    }
-}
-
-/// Who asks, and what a request is about.
-#[derive(Clone, Copy, Drop)]
-struct Scene<'a> {
-    directory: &'a Directory,
-    definition: &'a Definition,
-    user: Id,
-    moment: i64,
-}
 
 /// Makes a row.
 #[tactic(auto, unfolding(crate::specs::Run::RunsCreation))]
@@ -71,6 +42,7 @@ fn run_creation(
         → creation_in scene.now store.old.present name.now chosen values.now
         store.old.present (Err refusal) }
     ensures extends { OnOk result (Extends store.old store.new) }
+    ensures shape { OnOk result (store.new.present.shape ≡ store.old.present.shape) }
     ensures kept { OnErr result (store.new ≡ store.old) }
 {
     let Some((number, table)) = table_at(scene.definition, name) else {
@@ -128,26 +100,64 @@ fn play(
     scene: &Scene<'_>,
     request: &Request,
 ) -> Result<Reply, Stop>
-    requires { caller_fault scene.now.directory.now scene.now.user ≡ None }
+    requires enabled { caller_fault scene.now.directory.now scene.now.user ≡ None }
+    requires shape { store.old.present.shape ≡ shape_of scene.now.definition.now }
     ensures ok { IfOk result (λ reply.
         play_in scene.now store.old.present request.now store.new.present (Ok reply)) }
     ensures refused { (refusal : Answer) → result ≡ Err (Refused refusal)
         → play_in scene.now store.old.present request.now store.old.present (Err refusal) }
     ensures extends { OnOk result (Extends store.old store.new) }
+    ensures shape { OnOk result (store.new.present.shape ≡ store.old.present.shape) }
     ensures kept { OnErr result (store.new ≡ store.old) }
 {
     match request {
         Request::Create { table, id, values } => {
             run_creation(alloc, store, scene, table, *id, values)
         }
+        Request::Retrieve { table, id, columns } => {
+            run_retrieve(alloc, store, scene, table, *id, columns)
+        }
+        Request::Update {
+            table,
+            id,
+            values,
+            version,
+        } => run_update(alloc, store, scene, table, *id, values, *version),
+        Request::Delete { table, id, version } => {
+            run_delete(alloc, store, scene, table, *id, *version)
+        }
+        Request::Assign { table, id, owner } => {
+            run_assign(alloc, store, scene, table, *id, *owner)
+        }
+        Request::Grant {
+            table,
+            id,
+            principal,
+            rights,
+        } => run_grant(alloc, store, scene, table, *id, *principal, *rights),
+        Request::Modify {
+            table,
+            id,
+            principal,
+            rights,
+        } => run_modify(alloc, store, scene, table, *id, *principal, *rights),
+        Request::Revoke {
+            table,
+            id,
+            principal,
+        } => run_revoke(alloc, store, scene, table, *id, *principal),
+        Request::Access { table, id, user } => {
+            run_access(alloc, store, scene, table, *id, *user)
+        }
+        Request::Shares { table, id } => run_shares(alloc, store, scene, table, *id),
         Request::Query { query } => run_query(alloc, store, scene, query.get()),
         Request::WhoAmI => run_caller(alloc, scene),
         _ => Err(Stop::Refused(Refusal::NotBuilt)),
     }
 }
 
-/// Serves a request on rows at a moment: makes a row, answers a query for columns of all rows that the user may read,
-/// or tells the user who it is. Directory, definition and store are of one organisation.
+/// Serves a request on rows at a moment: a message on one row, a query for columns of all rows that the user may read,
+/// or the question who the user is. Directory, definition and store are of one organisation.
 ///
 /// # Errors
 ///
@@ -163,12 +173,14 @@ pub fn execute(
     moment: i64,
     request: &Request,
 ) -> Result<Reply, Stop>
+    requires { store.old.present.shape ≡ shape_of definition.now }
     ensures ok { IfOk result (λ reply. Runs definition.now directory.now store.old.present
         user moment request.now store.new.present (Ok reply)) }
     ensures refused { (refusal : Answer) → result ≡ Err (Refused refusal)
         → Runs definition.now directory.now store.old.present user moment request.now
         store.old.present (Err refusal) }
     ensures extends { OnOk result (Extends store.old store.new) }
+    ensures shape { OnOk result (store.new.present.shape ≡ store.old.present.shape) }
     ensures kept { OnErr result (store.new ≡ store.old) }
 {
     if let Some(refusal) = start_fault(directory, user, request) {

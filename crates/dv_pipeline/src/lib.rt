@@ -7,17 +7,15 @@
 #![tactic(auto)]
 
 mod caller;
-mod columns;
 mod creating;
 mod creation;
 mod executing;
 mod query;
 mod querying;
+mod reading;
 mod requests;
-mod showing;
-mod size;
-mod stop;
+mod writing;
 
+pub use dv_message::Stop;
 pub use executing::execute;
-pub use requests::is_built;
-pub use stop::Stop;
+pub use requests::{caller_fault, is_built};

@@ -2,13 +2,11 @@
 ghost use Rattle.std.specs.Prelude.{◌≡◌, ◌↔◌, IfOk, IsTrue};
 ghost use Rattle.dv_store.specs.World.{World};
 ghost use Rattle.dv_access.specs.Reaches.{Holds};
-ghost use Rattle.dv_pipeline.specs.Checked.{Answers, Walked};
+ghost use Rattle.dv_message.specs.Checked.{Answers, Walked};
 ghost use Rattle.dv_pipeline.specs.Querying.{querying_in, columns_part, names_fault, asked_fault, AreReadable, MayRead, QuerySays};
 
-use crate::columns::column_of;
-use crate::requests::denied;
-use crate::stop::Stop;
 use dv_access::{Denied, Why, permitted};
+use dv_message::{Stop, column_of, denied};
 use dv_refusal::Refusal;
 use dv_roles::Directory;
 use dv_schema::{Action, Column, Table};
@@ -116,7 +114,7 @@ impl Asked<'_> {
     }
 
     /// Makes checks in their order, up to the first that fails.
-    #[tactic(auto, unfolding(crate::specs::Checked::AllPass, crate::specs::Checked::FirstSays))]
+    #[tactic(auto, unfolding(dv_message::specs::Checked::AllPass, dv_message::specs::Checked::FirstSays))]
     pub fn judge_all(&self, alloc: Global, checks: &[QueryCheck]) -> Result<(), Stop>
         ensures { (world : World)
             → Walked (QuerySays (querying_in world self.now)) checks.now result }

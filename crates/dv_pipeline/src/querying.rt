@@ -2,12 +2,11 @@
 ghost use Rattle.std.specs.Prelude.{◌≡◌, IfOk, Ok, Err};
 ghost use Rattle.dv_pipeline.specs.Querying.{querying_in, AreReadable, ShowsRows, RunsQuerying};
 ghost use Rattle.dv_refusal.specs.declared.refusal.Refusal.{Refusal as Answer};
-ghost use Rattle.dv_pipeline.specs.declared.stop.Stop.TheVariants.{Refused};
+ghost use Rattle.dv_message.specs.declared.stop.Stop.TheVariants.{Refused};
 
 use crate::query::{Asked, QUERY_CHECKS};
 use crate::requests::MOST_SHOWN;
-use crate::showing::{asked_numbers, show_row};
-use crate::stop::Stop;
+use dv_message::{Stop, asked_numbers, show_row};
 use dv_refusal::Refusal;
 use dv_request::Reply;
 use dv_store::Store;

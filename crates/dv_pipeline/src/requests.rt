@@ -1,20 +1,12 @@
 //! Which requests are served, and what refuses one before its own checks.
-ghost use Rattle.std.specs.Prelude.{◌≡◌, ◌++◌, IfOk, map};
-ghost use Rattle.dv_schema.specs.Words.{action_word};
-ghost use Rattle.dv_pipeline.specs.Checked.{Answers};
-ghost use Rattle.dv_pipeline.specs.Requests.{is_plain, is_plain_query, is_built, is_apart, privilege_name, why_word, denied_as, caller_fault, place_fault, start_fault};
-ghost use Rattle.dv_refusal.specs.declared.refusal.Refusal.{Refusal as Answer};
-ghost use Rattle.std.specs.Prelude.{Option};
+ghost use Rattle.std.specs.Prelude.{◌≡◌};
+ghost use Rattle.dv_pipeline.specs.Requests.{is_plain, is_plain_query, is_built, is_apart, caller_fault, place_fault, start_fault};
 
-use crate::stop::Stop;
-use dv_access::{Denied, Why};
 use dv_query::{PageStart, Part, Query};
 use dv_refusal::Refusal;
 use dv_request::Request;
 use dv_roles::Directory;
-use dv_schema::{Action, Table};
-use dv_value::{Id, Text};
-use std::alloc::{AllocError, Global};
+use dv_value::Id;
 
 /// The most rows that an answer has, as long as it isn't cut into pages.
 pub(crate) const MOST_SHOWN: usize = 5_000;
@@ -49,14 +41,24 @@ fn is_plain_query(query: &Query) -> bool
         && is_plain(&query.part)
 }
 
-/// Whether a request is served by [`execute`](crate::execute): the creation of a row, a query for columns of all rows
+/// Whether a request is served by [`execute`](crate::execute): the messages on one row, a query for columns of all rows
 /// that the caller may read, and the question who the caller is.
 #[tactic(auto, unfolding(crate::specs::Requests::is_built))]
 pub fn is_built(request: &Request) -> bool
     ensures { result ≡ is_built request.now }
 {
     match request {
-        Request::Create { .. } | Request::WhoAmI => true,
+        Request::Create { .. }
+        | Request::Retrieve { .. }
+        | Request::Update { .. }
+        | Request::Delete { .. }
+        | Request::Assign { .. }
+        | Request::Grant { .. }
+        | Request::Modify { .. }
+        | Request::Revoke { .. }
+        | Request::Access { .. }
+        | Request::Shares { .. }
+        | Request::WhoAmI => true,
         Request::Query { query } => is_plain_query(query.get()),
         _ => false,
     }
@@ -88,9 +90,9 @@ fn is_apart(request: &Request) -> bool
     }
 }
 
-/// Why a caller may send no request.
+/// Why a caller may send no request: no user has its id, or the user is disabled.
 #[tactic(auto, unfolding(crate::specs::Requests::caller_fault))]
-fn caller_fault(directory: &Directory, user: Id) -> Option<Refusal>
+pub fn caller_fault(directory: &Directory, user: Id) -> Option<Refusal>
     ensures { result ≡ caller_fault directory.now user }
 {
     match directory.units().enabled(user) {
@@ -122,45 +124,4 @@ pub(crate) fn start_fault(directory: &Directory, user: Id, request: &Request) ->
         Some(refusal) => Some(refusal),
         None => place_fault(request),
     }
-}
-
-/// What a check that was computed answers.
-pub(crate) fn answer(refusal: Option<Refusal>) -> Result<(), Stop>
-    ensures { Answers (λ said. said ≡ refusal) result }
-{
-    match refusal {
-        None => Ok(()),
-        Some(refusal) => Err(Stop::Refused(refusal)),
-    }
-}
-
-/// The name of the privilege to do an action on a table.
-fn privilege_name(alloc: Global, action: Action, table: &Table) -> Result<Text, AllocError>
-    ensures { IfOk result (λ name. name ≡ privilege_name (action_word action) table.now.name) }
-{
-    let action = action.word();
-    let table = table.name.as_str();
-    Ok(Text::from_string(format!(in alloc; "prv{action}{table}")?))
-}
-
-/// The word for why an action is denied.
-#[tactic(auto, unfolding(crate::specs::Requests::why_word))]
-fn why_word(why: Why) -> &'static str
-    ensures { result.now ≡ why_word why }
-{
-    match why {
-        Why::NoPrivilege => "NoPrivilege",
-        Why::OutOfReach => "OutOfReach",
-    }
-}
-
-/// A denial, as it is told.
-#[tactic(auto, unfolding(crate::specs::Requests::denied_as))]
-pub(crate) fn denied(alloc: Global, table: &Table, denied: Denied) -> Result<Refusal, AllocError>
-    ensures { IfOk result (λ refusal. refusal ≡ denied_as table.now denied) }
-{
-    Ok(Refusal::Denied {
-        privilege: privilege_name(alloc, denied.action, table)?,
-        why: Text::from_str(alloc, why_word(denied.why))?,
-    })
 }

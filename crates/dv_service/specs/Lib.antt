@@ -4,6 +4,7 @@ pub mod Answers
 pub mod Opening
 pub mod Managing
 pub mod Serving
+pub mod Replies
 pub mod Machine
 pub mod Outside
 pub mod Outcome

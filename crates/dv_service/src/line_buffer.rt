@@ -75,8 +75,8 @@ fn is_blank(byte: u8) -> bool
 // Adds a byte while there are fewer than so many.
 fn push_within(bytes: &mut Vec<u8>, room: usize, byte: u8)
     requires { room ≤ vec_capacity bytes.old }
-    ensures items { bytes.new.items
-        ≡ (if nat_lt (length bytes.old.items) room then bytes.old.items ++ byte ∷ [] else bytes.old.items) }
+    ensures items { bytes.new.items ≡ (if nat_lt (length bytes.old.items) room
+        then bytes.old.items ++ byte ∷ [] else bytes.old.items) }
     ensures room { room ≤ vec_capacity bytes.new }
 {
     if bytes.len() < room {

@@ -1,9 +1,11 @@
 //! The messages that change the directory.
 ghost use Rattle.std.specs.Prelude.{◌≡◌, Ok, IfOk, OnOk, IfErr};
 ghost use Rattle.dv_units.specs.Outcome.{IsFaultOf};
-ghost use Rattle.dv_pipeline.specs.Requests.{caller_fault};
-ghost use Rattle.dv_service.specs.Managing.{is_of_chart, is_of_roles, is_of_directory, charted, empowered, changed, not_managing, management_fault, managed};
+ghost use Rattle.dv_service.specs.Managing.{is_of_chart, is_of_roles, is_of_directory};
+ghost use Rattle.dv_service.specs.Managing.{charted, empowered, changed};
+ghost use Rattle.dv_service.specs.Managing.{not_managing, management_fault, managed};
 
+use dv_pipeline::caller_fault;
 use dv_refusal::Refusal;
 use dv_request::Request;
 use dv_roles::Directory;
@@ -75,7 +77,8 @@ fn change_roles(
     definition: &Definition,
     request: &Request,
 ) -> Result<(), DirFault>
-    ensures ok { OnOk result (empowered definition.now directory.old request.now ≡ Ok directory.new) }
+    ensures ok { OnOk result
+        (empowered definition.now directory.old request.now ≡ Ok directory.new) }
     ensures err { IfErr result (IsFaultOf (empowered definition.now directory.old request.now)) }
 {
     match request {
@@ -107,18 +110,6 @@ fn change(
         change_chart(directory.units_mut(), request)
     } else {
         change_roles(directory, definition, request)
-    }
-}
-
-// Why a caller may send no request.
-#[tactic(auto, unfolding(dv_pipeline::specs::Requests::caller_fault))]
-fn caller_fault(directory: &Directory, user: Id) -> Option<Refusal>
-    ensures { result ≡ caller_fault directory.now user }
-{
-    match directory.units().enabled(user) {
-        None => Some(Refusal::UnknownCaller),
-        Some(true) => None,
-        Some(false) => Some(Refusal::CallerDisabled),
     }
 }
 

@@ -1,10 +1,12 @@
 //! The definition line, by which an organisation begins.
-ghost use Rattle.std.specs.Prelude.{◌≡◌, ℕ, List, IfOk, IsErrOf, Ok, [], Some, chars, option_map, false};
+ghost use Rattle.std.specs.Prelude.{◌≡◌, ℕ, List, [], Some, Ok, IfOk, IfErr, IsErrOf};
+ghost use Rattle.std.specs.Prelude.{chars, option_map, false};
 ghost use Rattle.dv_meta.specs.Reader.{IsAccepted};
 ghost use Rattle.dv_roles.specs.Beginning.{beginning};
 ghost use Rattle.dv_store.specs.World.{empty};
 ghost use Rattle.dv_service.specs.Lines.{within_limit};
-ghost use Rattle.dv_service.specs.Opening.{kind_word, is_later, has_later_column, has_later, Begins, Declines, IsUnfit};
+ghost use Rattle.dv_service.specs.Opening.{kind_word, is_later, has_later_column, has_later};
+ghost use Rattle.dv_service.specs.Opening.{Begins, Declines, IsUnfit};
 
 use crate::org::Org;
 use dv_meta::read_definition;
@@ -77,7 +79,8 @@ fn has_later_column(table: &Table) -> bool
 fn has_later(definition: &Definition) -> bool
     ensures { result ≡ has_later definition.now }
 {
-    definition.tables().iter().any(has_later_column)
+    let tables = definition.tables();
+    tables.iter().any(|table| has_later_column(table))
 }
 
 // A fault of the whole line. The kind is a word of letters without accents.
@@ -117,6 +120,18 @@ fn read(alloc: Global, line: Option<&[u8]>) -> Result<Definition, OpenFault>
     }
 }
 
+// The organisation of a definition and its directory, in which nothing was done.
+fn begun(alloc: Global, definition: Definition, directory: Directory) -> Result<Org, OpenFault>
+    ensures begun { IfOk result (λ org. (org.definition ≡ definition)
+        × (org.directory ≡ directory) × (org.world ≡ empty definition)) }
+    ensures memory { IfErr result (λ fault. fault ≡ OpenFault.OutOfMemory) }
+{
+    match Store::new(alloc, &definition) {
+        Ok(store) => Ok(Org::new(definition, directory, store)),
+        Err(_) => Err(OpenFault::OutOfMemory),
+    }
+}
+
 // Begins the organisation of an accepted definition.
 fn begin_with(alloc: Global, definition: Definition) -> Result<Org, OpenFault>
     ensures ok { IfOk result (λ org. (org.definition ≡ definition)
@@ -129,10 +144,7 @@ fn begin_with(alloc: Global, definition: Definition) -> Result<Org, OpenFault>
         return Err(whole_fault(alloc, "NotBuilt"));
     }
     match Directory::begin(alloc, &definition) {
-        Ok(directory) => {
-            let store = Store::new(alloc, &definition)?;
-            Ok(Org::new(definition, directory, store))
-        }
+        Ok(directory) => begun(alloc, definition, directory),
         Err(DirFault::Refused(_)) => Err(whole_fault(alloc, "BadDirectory")),
         Err(DirFault::OutOfMemory) => Err(OpenFault::OutOfMemory),
     }

@@ -3,11 +3,12 @@ ghost use Rattle.std.specs.Prelude.{◌≡◌, [], IfOk, OnErr, Result, length};
 ghost use Rattle.dv_pipeline.specs.Run.{Runs};
 ghost use Rattle.dv_work.specs.History.{Extends};
 ghost use Rattle.dv_schema.specs.Definitions.{tables_of};
+ghost use Rattle.dv_store.specs.Shapes.{shape_of};
 ghost use Rattle.dv_refusal.specs.declared.refusal.Refusal.{Refusal as Answered};
 ghost use Rattle.dv_request.specs.declared.reply.Reply.{Reply as Told};
 ghost use Rattle.dv_service.specs.Answers.{answer_line};
 ghost use Rattle.dv_service.specs.Managing.{managed};
-ghost use Rattle.dv_service.specs.Serving.{Manages, Executes, Serves, reply_of};
+ghost use Rattle.dv_service.specs.Serving.{Manages, Serves, reply_of};
 ghost use Rattle.dv_service.specs.declared.answer.Answer.TheVariants.{Replied};
 
 use crate::answer::{refusal_line, reply_line};
@@ -22,8 +23,8 @@ use dv_value::Id;
 use std::alloc::{AllocError, Global};
 use std::marker::Model;
 
-/// An organisation: its definition, its directory and its rows. Between two requests no earlier state of the rows is
-/// kept.
+/// An organisation: its definition, its directory and its rows. Between two requests no earlier
+/// state of the rows is kept.
 #[derive(Drop)]
 pub struct Org {
     definition: Definition,
@@ -33,6 +34,7 @@ pub struct Org {
 
 impl Model for Org {
     ghost use Rattle.std.specs.Prelude.{◌≡◌, []};
+    ghost use Rattle.dv_store.specs.Shapes.{shape_of};
     ghost use Rattle.dv_service.specs.Organisations.{Organisation, organisation_code};
 
     ghost Value = { Organisation };
@@ -45,7 +47,7 @@ impl Model for Org {
       world = s.store.present;
     } };
 
-    ghost invariant = { λ s. s.store.earlier ≡ [] };
+    ghost invariant = { λ s. (s.store.earlier ≡ []) × (s.store.present.shape ≡ shape_of s.definition) };
 }
 
 // Executes a request on rows, and prints its reply. On an `Err` a part of it may be done.
@@ -58,10 +60,12 @@ fn run_printed(
     now: i64,
     request: &Request,
 ) -> Result<Vec<u8>, AllocError>
+    requires { store.old.present.shape ≡ shape_of definition.now }
     ensures ok { IfOk result (λ line. (outcome : Result Told Answered)
         × Runs definition.now directory.now store.old.present user now request.now
         store.new.present outcome × (line.items ≡ answer_line (Replied (reply_of outcome)))) }
     ensures extends { Extends store.old store.new }
+    ensures shape { store.new.present.shape ≡ store.old.present.shape }
 {
     match execute(alloc, store, directory, definition, user, now, request) {
         Ok(reply) => reply_line(alloc, &reply),
@@ -71,9 +75,11 @@ fn run_printed(
 }
 
 impl Org {
-    /// An organisation of these parts, which are of one definition. The store keeps no earlier state.
+    /// An organisation of these parts, which are of one definition. The store keeps no earlier
+    /// state.
     pub fn new(definition: Definition, directory: Directory, store: Store) -> Org
-        requires { store.earlier ≡ [] }
+        requires earlier { store.earlier ≡ [] }
+        requires shape { store.present.shape ≡ shape_of definition }
         ensures definition { result.definition ≡ definition }
         ensures directory { result.directory ≡ directory }
         ensures world { result.world ≡ store.present }
@@ -92,8 +98,28 @@ impl Org {
         self.definition.tables().len() as u64
     }
 
-    // Serves a request on rows, whole or not at all.
-    fn run(
+    // Serves a message of the directory. The changed directory takes the old one's place once the
+    // reply is made.
+    fn manage(&mut self, alloc: Global, user: Id, request: &Request) -> Result<Vec<u8>, AllocError>
+        ensures ok { IfOk result (λ line. (reply : Told)
+            × Manages (managed self.old.definition self.old.directory user request.now)
+            self.old reply self.new × (line.items ≡ answer_line (Replied reply))) }
+        ensures kept { OnErr result (self.new ≡ self.old) }
+    {
+        match managed(alloc, &self.directory, &self.definition, user, request) {
+            Ok(directory) => {
+                let line = reply_line(alloc, &Reply::Done)?;
+                self.directory = directory;
+                Ok(line)
+            }
+            Err(DirFault::Refused(refusal)) => refusal_line(alloc, refusal),
+            Err(DirFault::OutOfMemory) => Err(AllocError),
+        }
+    }
+
+    /// Serves a request of a user at a moment, whole or not at all, and gives the line of its reply.
+    /// The error is out of memory, which leaves the organisation as it was.
+    pub fn serve(
         &mut self,
         alloc: Global,
         user: Id,
@@ -101,10 +127,13 @@ impl Org {
         request: &Request,
     ) -> Result<Vec<u8>, AllocError>
         ensures ok { IfOk result (λ line. (reply : Told)
-            × Executes self.old now user request.now reply self.new
+            × Serves self.old now user request.now reply self.new
             × (line.items ≡ answer_line (Replied reply))) }
         ensures kept { OnErr result (self.new ≡ self.old) }
     {
+        if is_of_directory(request) {
+            return self.manage(alloc, user, request);
+        }
         let start = self.store.mark();
         match run_printed(
             alloc,
@@ -123,47 +152,6 @@ impl Org {
                 self.store.undo_to(start);
                 Err(fault)
             }
-        }
-    }
-
-    // Serves a message of the directory. The changed directory takes the old one's place once the reply is made.
-    #[tactic(auto, unfolding(crate::specs::Serving::Manages))]
-    fn manage(&mut self, alloc: Global, user: Id, request: &Request) -> Result<Vec<u8>, AllocError>
-        ensures ok { IfOk result (λ line. (reply : Told)
-            × Manages (managed self.old.definition self.old.directory user request.now)
-            self.old reply self.new × (line.items ≡ answer_line (Replied reply))) }
-        ensures kept { OnErr result (self.new ≡ self.old) }
-    {
-        match managed(alloc, &self.directory, &self.definition, user, request) {
-            Ok(directory) => {
-                let line = reply_line(alloc, &Reply::Done)?;
-                self.directory = directory;
-                Ok(line)
-            }
-            Err(DirFault::Refused(refusal)) => refusal_line(alloc, refusal),
-            Err(DirFault::OutOfMemory) => Err(AllocError),
-        }
-    }
-
-    /// Serves a request of a user at a moment, and gives the line of its reply. The error is out of memory, which leaves
-    /// the organisation as it was.
-    #[tactic(auto, unfolding(crate::specs::Serving::ServesAs))]
-    pub fn serve(
-        &mut self,
-        alloc: Global,
-        user: Id,
-        now: i64,
-        request: &Request,
-    ) -> Result<Vec<u8>, AllocError>
-        ensures ok { IfOk result (λ line. (reply : Told)
-            × Serves self.old now user request.now reply self.new
-            × (line.items ≡ answer_line (Replied reply))) }
-        ensures kept { OnErr result (self.new ≡ self.old) }
-    {
-        if is_of_directory(request) {
-            self.manage(alloc, user, request)
-        } else {
-            self.run(alloc, user, now, request)
         }
     }
 }

@@ -19,7 +19,7 @@ pub const INPUT_LIMIT: u64 = 1_099_511_627_776;
 const PIECE: usize = 65_536;
 
 /// What one read of the input led to.
-#[derive(Clone, Copy, Debug, PartialEq, Eq)]
+#[derive(Clone, Copy)]
 pub enum Turn {
     Took(usize),
     AtEnd,

@@ -2,7 +2,9 @@
 ghost use Rattle.std.specs.Prelude.{◌≡◌, ◌≢◌, ◌↔◌, ◌<◌, ◌⊎◌, IsTrue, IfSome, length, true};
 ghost use Rattle.dv_base.specs.Faults.{Rose};
 ghost use Rattle.dv_service.specs.Lines.{lines_of};
-ghost use Rattle.dv_service.specs.Outcome.{AreRun, RanToEnd, NotOpened, StoppedBelowLimit, StoppedAtLimit, CutShort, IsOpened};
+ghost use Rattle.dv_service.specs.Outcome.{AreRun, IsOpened};
+ghost use Rattle.dv_service.specs.Outcome.{RanToEnd, NotOpened, CutShort};
+ghost use Rattle.dv_service.specs.Outcome.{StoppedBelowLimit, StoppedAtLimit};
 ghost use Rattle.dv_service.specs.Outside.{outside};
 ghost use Rattle.dv_service.specs.Statuses.{is_status};
 ghost use Rattle.dv_service.specs.declared.run.TheConstants.{INPUT_LIMIT};
@@ -21,9 +23,10 @@ fn is_run(words: &[String]) -> bool
 
 /// Runs the service: reads lines from `input` and writes a line to `output` for each.
 ///
-/// `words` are the words after the program's name. The first line is the organisation's definition; the organisation
-/// stands in memory for this run alone. The clock is asked once for each line that has a request. No clause says that a line is answered before more input is asked for; it is,
-/// as soon as the line has ended.
+/// `words` are the words after the program's name. The first line is the organisation's definition;
+/// the organisation stands in memory for this run alone. The clock is asked once for each line that
+/// has a request. No clause says that a line is answered before more input is asked for; it is, as
+/// soon as the line has ended.
 pub fn top<S: Source, W: Sink, C: Clock>(
     alloc: Global,
     words: &[String],
@@ -31,7 +34,8 @@ pub fn top<S: Source, W: Sink, C: Clock>(
     output: &mut W,
     clock: &mut C,
 ) -> Status
-    // All lines of the input were answered by the machine, from its first to its last, and nothing else was written.
+    // All lines of the input were answered by the machine, from its first to its last, and nothing
+    // else was written.
     ensures finished { result.0 ≡ 0
         → RanToEnd (S.left input.old) (S.left input.new)
         (outside (W.written output.old) (C.state clock.old))
@@ -81,16 +85,16 @@ pub fn top<S: Source, W: Sink, C: Clock>(
     // There is no other status.
     ensures known { is_status result.0 ≡ true }
 
-    // An input below the limit is read to its end where an organisation begins by its first line, and is refused where
-    // none does, unless an end fails or memory runs out.
+    // An input below the limit is read to its end where an organisation begins by its first line, and
+    // is refused where none does, unless an end fails or memory runs out.
     ensures complete { AreRun words.now → ¬ Rose (S.read_faults input.old) (S.read_faults input.new)
         → ¬ Rose (W.write_faults output.old) (W.write_faults output.new)
         → IfSome (S.left input.old) (λ bytes. length bytes < INPUT_LIMIT → IsOpened (lines_of bytes)
         → (result.0 ≡ 0) ⊎ (result.0 ≡ 9)) }
     ensures refuses { AreRun words.now → ¬ Rose (S.read_faults input.old) (S.read_faults input.new)
         → ¬ Rose (W.write_faults output.old) (W.write_faults output.new)
-        → IfSome (S.left input.old) (λ bytes. length bytes < INPUT_LIMIT → ¬ (IsOpened (lines_of bytes))
-        → (result.0 ≡ 3) ⊎ (result.0 ≡ 9)) }
+        → IfSome (S.left input.old) (λ bytes. length bytes < INPUT_LIMIT
+        → ¬ (IsOpened (lines_of bytes)) → (result.0 ≡ 3) ⊎ (result.0 ≡ 9)) }
 {
     if is_run(words) {
         run(alloc, input, output, clock).status()

@@ -1,5 +1,5 @@
 //! A line after the first: what it reads is served at the moment that the clock gives.
-ghost use Rattle.std.specs.Prelude.{◌≡◌, ℕ, List, IfOk, IsErrOf, option_map};
+ghost use Rattle.std.specs.Prelude.{◌≡◌, ℕ, List, IfOk, IfErr, IsErrOf, option_map};
 ghost use Rattle.dv_value.specs.declared.id.Id.{Id as Caller};
 ghost use Rattle.dv_request.specs.declared.request.Request.{Request as Asked};
 ghost use Rattle.dv_request.specs.declared.reply.Reply.{Reply as Told};
@@ -7,7 +7,8 @@ ghost use Rattle.dv_refusal.specs.declared.refusal.Refusal.TheVariants as refusa
 ghost use Rattle.dv_wire.specs.Reads.{spelled, faulty};
 ghost use Rattle.dv_service.specs.Answers.{answer_line, refused};
 ghost use Rattle.dv_service.specs.Lines.{within_limit};
-ghost use Rattle.dv_service.specs.Serving.{reading_of, is_served, Asks, Served};
+ghost use Rattle.dv_service.specs.Replies.{Tells};
+ghost use Rattle.dv_service.specs.Serving.{reading_of, is_served, Asks, ServedIf, Served};
 ghost use Rattle.dv_service.specs.declared.answer.Answer.TheVariants.{Replied};
 
 use crate::answer::refusal_line;
@@ -19,25 +20,15 @@ use dv_refusal::Refusal;
 use dv_request::Request;
 use dv_value::{Id, Text};
 use dv_wire::{WireFault, read_request};
-use std::alloc::{AllocError, Global};
+use std::alloc::Global;
 
 /// Why a line has no reply of its own.
-#[derive(Clone, Copy, Debug, PartialEq, Eq)]
+#[derive(Clone, Copy)]
 pub enum LineFault {
     /// The clock gave no moment.
     Clock,
     /// Memory ran out.
     Memory,
-}
-
-impl From<AllocError> for LineFault {
-    ghost use Rattle.dv_service.specs.declared.serving.LineFault.TheVariants.{Memory};
-
-    ghost from_gives = { λ _ fault. fault ≡ Memory };
-
-    fn from(_: AllocError) -> LineFault {
-        LineFault::Memory
-    }
 }
 
 // Whether the service is built as far as the request asks.
@@ -62,6 +53,17 @@ fn read(alloc: Global, line: Option<&[u8]>) -> Result<(Id, Request), WireFault>
     }
 }
 
+// The line of a refusal.
+fn refuse(alloc: Global, refusal: Refusal) -> Result<Vec<u8>, LineFault>
+    ensures line { IfOk result (λ line. line.items ≡ answer_line (Replied (refused refusal))) }
+    ensures memory { IfErr result (λ fault. fault ≡ LineFault.Memory) }
+{
+    match refusal_line(alloc, refusal) {
+        Ok(line) => Ok(line),
+        Err(_) => Err(LineFault::Memory),
+    }
+}
+
 // Serves a request at the moment that the clock gives.
 fn ask<C: Clock>(
     alloc: Global,
@@ -70,13 +72,8 @@ fn ask<C: Clock>(
     request: &Request,
     clock: &mut C,
 ) -> Result<Vec<u8>, LineFault>
-    ensures ok { IfOk result (λ line. (reply : Told) × Asks org.old user request.now
-        (C.state clock.old) reply org.new (C.state clock.new)
-        × (line.items ≡ answer_line (Replied reply))) }
-    ensures clock { IsErrOf result LineFault.Clock → Asks org.old user request.now
-        (C.state clock.old) (refused refusal.ClockFault) org.new (C.state clock.new) }
-    ensures memory { IsErrOf result LineFault.Memory → Asks org.old user request.now
-        (C.state clock.old) (refused refusal.OutOfMemory) org.new (C.state clock.new) }
+    ensures { Tells result (λ line. line.items) (λ reply. Asks org.old user request.now
+        (C.state clock.old) reply org.new (C.state clock.new)) }
 {
     let Ok(now) = clock.now() else {
         return Err(LineFault::Clock);
@@ -87,33 +84,49 @@ fn ask<C: Clock>(
     }
 }
 
-/// The line of the reply to a line, and what is done by it. A line above the limit is given as `None`.
+// Serves a request, where the service is built as far as it asks.
+fn serve_request<C: Clock>(
+    alloc: Global,
+    org: &mut Org,
+    user: Id,
+    request: &Request,
+    clock: &mut C,
+) -> Result<Vec<u8>, LineFault>
+    ensures { Tells result (λ line. line.items) (λ reply. ServedIf (is_served request.now)
+        org.old user request.now (C.state clock.old) reply org.new (C.state clock.new)) }
+{
+    if is_served(request) {
+        ask(alloc, org, user, request, clock)
+    } else {
+        refuse(alloc, Refusal::NotBuilt)
+    }
+}
+
+/// The line of the reply to a line, and what is done by it. A line above the limit is given as
+/// `None`.
 pub fn serve_line<C: Clock>(
     alloc: Global,
     org: &mut Org,
     line: Option<&[u8]>,
     clock: &mut C,
 ) -> Result<Vec<u8>, LineFault>
-    ensures ok { (whole : List ℕ) → option_map (λ held. held.now) line.entry ≡ within_limit whole
+    ensures ok { (whole : List ℕ)
+        → option_map (λ held. held.now) line.entry ≡ within_limit whole
         → IfOk result (λ line. (reply : Told) × Served org.old whole
         (C.state clock.old) reply org.new (C.state clock.new)
         × (line.items ≡ answer_line (Replied reply))) }
-    ensures clock { (whole : List ℕ) → option_map (λ held. held.now) line.entry ≡ within_limit whole
+    ensures clock { (whole : List ℕ)
+        → option_map (λ held. held.now) line.entry ≡ within_limit whole
         → IsErrOf result LineFault.Clock → Served org.old whole
         (C.state clock.old) (refused refusal.ClockFault) org.new (C.state clock.new) }
-    ensures memory { (whole : List ℕ) → option_map (λ held. held.now) line.entry ≡ within_limit whole
+    ensures memory { (whole : List ℕ)
+        → option_map (λ held. held.now) line.entry ≡ within_limit whole
         → IsErrOf result LineFault.Memory → Served org.old whole
         (C.state clock.old) (refused refusal.OutOfMemory) org.new (C.state clock.new) }
 {
-    let (user, request) = match read(alloc, line) {
-        Ok(read) => read,
-        Err(WireFault::Malformed(place)) => {
-            return Ok(refusal_line(alloc, Refusal::Malformed { place })?);
-        }
-        Err(WireFault::OutOfMemory) => return Err(LineFault::Memory),
-    };
-    if !is_served(&request) {
-        return Ok(refusal_line(alloc, Refusal::NotBuilt)?);
+    match read(alloc, line) {
+        Ok(read) => serve_request(alloc, org, read.0, &read.1, clock),
+        Err(WireFault::Malformed(place)) => refuse(alloc, Refusal::Malformed { place }),
+        Err(WireFault::OutOfMemory) => Err(LineFault::Memory),
     }
-    ask(alloc, org, user, &request, clock)
 }

@@ -2,7 +2,8 @@
 ghost use Rattle.std.specs.Prelude.{◌≡◌, ◌∷◌, [], Some, None};
 ghost use Rattle.dv_base.specs.Clock.{ClockState};
 ghost use Rattle.dv_service.specs.Outside.{outside};
-ghost use Rattle.dv_service.specs.Sessions.{Wrote, RefusesFirst, TellsBegun, AnswersHeld, Takes, EndsLine, TellsWriteFault};
+ghost use Rattle.dv_service.specs.Sessions.{Wrote, RefusesFirst, TellsBegun, AnswersHeld};
+ghost use Rattle.dv_service.specs.Sessions.{Takes, EndsLine, TellsWriteFault};
 
 use crate::answer::{opened_line, refusal_line};
 use crate::line_buffer::LineBuffer;

@@ -12,7 +12,7 @@ impl Status {
 }
 
 /// How a run ends.
-#[derive(Clone, Copy, Debug, PartialEq, Eq)]
+#[derive(Clone, Copy)]
 pub enum Ending {
     Done,
     NotOpened,
@@ -40,7 +40,7 @@ impl Ending {
 }
 
 /// What ends a run while a line is served.
-#[derive(Clone, Copy, Debug, PartialEq, Eq)]
+#[derive(Clone, Copy)]
 pub enum Stop {
     NotOpened,
     WriteFault,

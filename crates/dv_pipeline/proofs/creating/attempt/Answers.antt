@@ -1,6 +1,7 @@
 use Rattle.std.proofs.Common.{◌≡◌, ◌≤◌, ap, sym, subst, ◌∙◌}
 use Rattle.dv_store.specs.World.{bumped, id_drawn, row_put, row_total, most_rows}
-use Rattle.dv_pipeline.specs.Creating.{creating_in, created, with_row, stop_of, IsLimit}
+use Rattle.dv_pipeline.specs.Creating.{creating_in, created, with_row, IsLimit}
+use Rattle.dv_message.specs.Versions.{stop_of}
 use Rattle.dv_pipeline.proofs.Making.{put_is, row_limit, version_limit, no_limit, chosen_stays, drawn_is, id_limit}
 use Rattle.dv_pipeline.proofs.creating.attempt.Goals as goal
 

@@ -1,7 +1,8 @@
 use Rattle.std.proofs.Common.{◌≡◌, ◌≤◌, drop}
 use Rattle.std.specs.Prelude.{filter, length}
 use Rattle.std.specs.Option.{option_copied}
-use Rattle.dv_pipeline.specs.Creating.{first_by_name, is_missing}
+use Rattle.dv_message.specs.Columns.{first_by_name}
+use Rattle.dv_pipeline.specs.Creating.{is_missing}
 use Rattle.dv_pipeline.proofs.creation.first_missing.Given as goal
 
 abbrev pub invariant-loop-place : goal.invariant-loop-place

@@ -1,9 +1,9 @@
 use Rattle.std.proofs.Common.{◌≡◌, ap, inl, subst}
 use Rattle.std.specs.Prelude.{Result, Ok, Err}
 use Rattle.dv_request.specs.declared.reply.Reply.{Reply}
-use Rattle.dv_pipeline.specs.declared.stop.Stop.{Stop}
-use Rattle.dv_pipeline.specs.declared.stop.Stop.TheVariants.{Refused}
-use Rattle.dv_pipeline.specs.Checked.{Walked}
+use Rattle.dv_message.specs.declared.stop.Stop.{Stop}
+use Rattle.dv_message.specs.declared.stop.Stop.TheVariants.{Refused}
+use Rattle.dv_message.specs.Checked.{Walked}
 use Rattle.dv_pipeline.specs.Querying.{querying_in, QuerySays, query_checks}
 use Rattle.dv_pipeline.proofs.querying.answer_query.Goals as goal
 

@@ -1,6 +1,6 @@
 use Rattle.std.proofs.Common.{[], subst, sym, append-nil}
 use Rattle.dv_pipeline.specs.Querying.{querying_in, ShowsRows}
-use Rattle.dv_pipeline.proofs.Walking.{drop_past}
+use Rattle.dv_message.proofs.Walking.{drop_past}
 use Rattle.dv_pipeline.proofs.querying.show_rows.Goals as goal
 
 pub returns : goal.returns

@@ -1,10 +1,33 @@
-use Rattle.std.proofs.Common.{refl, sym, ◌∙◌, subst}
+use Rattle.std.proofs.Common.{◌≡◌, refl, sym, ◌∙◌, subst, ap, Ok}
+use Rattle.std.proofs.lemmas.Result.{IfOk-weaker}
 use Rattle.std.specs.Str.{chars}
 use Rattle.dv_roles.specs.Beginning.{beginning}
 use Rattle.dv_units.specs.Outcome.{IsFaultOf}
-use Rattle.dv_service.specs.Opening.{unmade}
-use Rattle.dv_service.proofs.Faults.{same_error}
+use Rattle.dv_service.specs.Opening.{later, unmade}
+use Rattle.dv_service.proofs.Faults.{same_error, memory_not_bad, only_memory}
 use Rattle.dv_service.proofs.opening.begin_with.Goals as goal
+
+pub returns-then-has_later-clause-ok : goal.returns-then-has_later-clause-ok
+returns-then-has_later-clause-ok c = tt
+
+pub returns-then-has_later-clause-bad : goal.returns-then-has_later-clause-bad
+returns-then-has_later-clause-bad c = λ kind place is.
+    let both = c.whole_fault.ensures kind place (same_error _ _ is) in
+    (later (sym c.has_later.ensures ∙ c.if-has_later.true) both.0, both.1)
+
+pub returns-in-Ok-clause-ok : goal.returns-in-Ok-clause-ok
+returns-in-Ok-clause-ok c = IfOk-weaker c.begun.result _ _ (λ org e. (
+  e.0,
+  sym c.has_later.ensures ∙ c.if-has_later.false,
+  c.in-Ok.ensures.ok ∙ ap Ok (sym e.1),
+  e.2,
+)) c.begun.ensures.begun
+
+pub returns-in-Ok-clause-bad : goal.returns-in-Ok-clause-bad
+returns-in-Ok-clause-bad c = λ kind place is. absurd (only_memory c.begun.result kind place c.begun.ensures.memory is)
+
+pub returns-in-Err-Refused-clause-ok : goal.returns-in-Err-Refused-clause-ok
+returns-in-Err-Refused-clause-ok c = tt
 
 pub returns-in-Err-Refused-clause-bad : goal.returns-in-Err-Refused-clause-bad
 returns-in-Err-Refused-clause-bad c = λ kind place is.

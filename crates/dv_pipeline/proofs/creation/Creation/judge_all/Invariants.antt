@@ -1,7 +1,7 @@
 use Rattle.std.proofs.Common.{drop}
 use Rattle.std.specs.Prelude.{Result}
-use Rattle.dv_pipeline.specs.declared.stop.Stop.{Stop}
-use Rattle.dv_pipeline.specs.Checked.{Walked}
+use Rattle.dv_message.specs.declared.stop.Stop.{Stop}
+use Rattle.dv_message.specs.Checked.{Walked}
 use Rattle.dv_pipeline.specs.Creating.{creating_in, CreationSays}
 use Rattle.dv_pipeline.proofs.creation.Creation.judge_all.Given as goal
 

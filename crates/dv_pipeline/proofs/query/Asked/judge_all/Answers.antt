@@ -1,9 +1,9 @@
 use Rattle.std.proofs.Common.{◌<◌, ◌+◌, arith, length, drop, get_or, subst, sym}
 use Rattle.std.specs.Prelude.{Err}
-use Rattle.dv_pipeline.specs.Checked.{Walked}
+use Rattle.dv_message.specs.Checked.{Walked}
 use Rattle.dv_pipeline.specs.Querying.{querying_in, QuerySays}
 use Rattle.dv_pipeline.specs.declared.query.QueryCheck.TheVariants as check
-use Rattle.dv_pipeline.proofs.Walking.{ended, drop_at}
+use Rattle.dv_message.proofs.Walking.{ended, drop_at}
 use Rattle.dv_pipeline.proofs.query.Asked.judge_all.Goals as goal
 
 pub returns-in-Err : goal.returns-in-Err

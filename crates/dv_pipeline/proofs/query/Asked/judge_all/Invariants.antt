@@ -1,8 +1,8 @@
 use Rattle.std.proofs.Common.{drop}
 use Rattle.std.specs.Prelude.{Result}
 use Rattle.dv_store.specs.World.{World}
-use Rattle.dv_pipeline.specs.declared.stop.Stop.{Stop}
-use Rattle.dv_pipeline.specs.Checked.{Walked}
+use Rattle.dv_message.specs.declared.stop.Stop.{Stop}
+use Rattle.dv_message.specs.Checked.{Walked}
 use Rattle.dv_pipeline.specs.Querying.{querying_in, QuerySays}
 use Rattle.dv_pipeline.proofs.query.Asked.judge_all.Given as goal
 

@@ -1,7 +1,0 @@
-use Rattle.std.proofs.Common.{◌≡◌, take}
-use Rattle.std.specs.Prelude.{map}
-use Rattle.dv_pipeline.specs.Columns.{given_in}
-use Rattle.dv_pipeline.proofs.columns.own_values.Given as goal
-
-abbrev pub invariant-loop-column : goal.invariant-loop-column
-invariant-loop-column l = l.own ≡ map (given_in l.fn.values) (take l.column-index l.columns)

@@ -1,6 +1,0 @@
-use Rattle.std.proofs.Common.{◌≡◌, ◌++◌, drop}
-use Rattle.dv_pipeline.specs.Showing.{asked_from}
-use Rattle.dv_pipeline.proofs.showing.asked_numbers.Given as goal
-
-abbrev pub invariant-loop-number : goal.invariant-loop-number
-invariant-loop-number l = l.numbers.items ++ asked_from l.number l.names (drop l.number l.columns) ≡ asked_from 0 l.names l.columns

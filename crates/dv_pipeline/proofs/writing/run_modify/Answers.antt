@@ -1,0 +1,24 @@
+use Rattle.std.proofs.Common.{FitsSigned, w64}
+use Rattle.std.proofs.lemmas.Int.{to_z-of_z}
+use Rattle.std.proofs.lemmas.Result.{IfOk-weaker}
+use Rattle.dv_message.specs.Scenes.{OnRow}
+use Rattle.dv_pipeline.specs.Run.{Plays}
+use Rattle.dv_pipeline.proofs.Aiming.{of_definition}
+use Rattle.dv_pipeline.proofs.writing.run_modify.Goals as goal
+
+pub modify-requires : goal.modify-requires
+modify-requires c = of_definition c.args.scene.now c.args.store.now.present c.args.name.now c.args.id c.in-Ok.target (c.in-Ok.ensures.ok c.args.store.now.present) _ c.requires
+
+pub returns-in-Ok-clause-ok : goal.returns-in-Ok-clause-ok
+unfolding Plays OnRow
+returns-in-Ok-clause-ok c =
+    let fits : FitsSigned w64 c.args.rights = c.ranges.rights in
+    let runs = simp to_z-of_z at c.modify.ensures.ok in
+    IfOk-weaker c.modify.result _ _ (λ reply e. rw (c.in-Ok.ensures.ok c.args.store.now.present) e) runs
+
+pub returns-in-Ok-clause-refused : goal.returns-in-Ok-clause-refused
+unfolding Plays OnRow
+returns-in-Ok-clause-refused c = λ refusal is.
+    let fits : FitsSigned w64 c.args.rights = c.ranges.rights in
+    let runs = simp to_z-of_z at (c.modify.ensures.refused refusal is) in
+    rw (c.in-Ok.ensures.ok c.args.store.now.present) runs
