@@ -16,14 +16,16 @@ use running::first_difference;
 use std::fs;
 
 // The files of scenarios.
-const FILES: [&str; 7] = [
+const FILES: [&str; 9] = [
     "scenarios/access.txt",
     "scenarios/clock.txt",
     "scenarios/directory.txt",
     "scenarios/faults.txt",
     "scenarios/lines.txt",
+    "scenarios/one_row.txt",
     "scenarios/opening.txt",
     "scenarios/rows.txt",
+    "scenarios/sharing.txt",
 ];
 
 // Takes a line, runs the scenario that ends with it, and tells where it differs.
