@@ -1,5 +1,6 @@
 #!/usr/bin/env python3
-"""Feeds the built program 5,000 creations and 100 queries, and prints requests and bytes a second.
+"""Feeds the built program 5,000 creations and 100 queries, and prints requests and bytes a second. Then it prints what one
+row message takes in a table of 5,000 rows and in one of 100,000.
 
     bench/throughput.py [PROGRAM]      PROGRAM is crates/orgsvc/out/orgsvc, as `rt run` in crates/orgsvc builds it
 
@@ -49,6 +50,44 @@ for name, lines in (("creations", [definition] + creations), ("creations and que
     other = peer(lines, replies)
     print(f"{name}: {len(lines) / seconds:,.0f} requests/s, {taken / seconds / 1e6:,.1f} MB/s in, "
           f"{given / seconds / 1e6:,.1f} MB/s out, {seconds:.2f} s, {other / seconds:.2f} times the speed of Python's json")
+
+# One message on a row must not cost more for the rows beside it: the time of 5,000 messages behind the creations, less
+# that of the creations alone.
+MESSAGES = 5_000
+USER = "00000000-0000-0000-0000-00000000000b"
+with_user = line({"root": ROOT, "admin": ADMIN, "users": [{"id": USER, "unit": ROOT}], "tables": [
+    {"name": "account", "owned": "user", "columns": [{"name": "name", "type": "text", "max": 100}]}]})
+
+
+def about(row, message):
+    return line({"caller": ADMIN, "table": "account", "id": f"00000000-0000-0000-0000-{row:012x}", **message})
+
+
+def messages(rows, make):
+    return [about(1 + k * 7919 % rows, make(k)) for k in range(MESSAGES)]
+
+
+KINDS = {
+    "retrieve": lambda k: {"do": "retrieve"},
+    "update": lambda k: {"do": "update", "values": {"name": f"Name {k}"}},
+    "assign": lambda k: {"do": "assign", "owner": USER if k % 2 else ADMIN},
+    "grant": lambda k: {"do": "grant", "principal": USER, "rights": 1 + k % 3},
+}
+
+
+def best(lines):
+    return min(timed(lines)[0] for _ in range(3))
+
+
+spent = {}
+for rows in (5_000, 100_000):
+    made = [with_user] + [creations[k % CREATIONS] for k in range(rows)]
+    alone = best(made)
+    for name, make in KINDS.items():
+        spent[name, rows] = (best(made + messages(rows, make)) - alone) / MESSAGES * 1e6
+for name in KINDS:
+    few, many = spent[name, 5_000], spent[name, 100_000]
+    print(f"{name}: {1e6 / few:,.0f} a second among 5,000 rows, {1e6 / many:,.0f} among 100,000; one takes {many / few:.2f} times as long there")
 
 # A line above the limit is read to its end and refused.
 seconds, taken, given, replies = timed([definition, "x" * 200_000_000 + "\n"])
