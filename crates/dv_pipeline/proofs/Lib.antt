@@ -1,3 +1,4 @@
 pub mod Aiming
 pub mod Making
 pub mod Owning
+pub mod Teams

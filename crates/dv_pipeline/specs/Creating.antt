@@ -1,5 +1,5 @@
 -- How a row is made: what is checked, in which order, and what the new row is.
-use Rattle.std.specs.Prelude.{◌≡◌, ◌^◌, ◌+◌, ◌-◌, ◌&&◌, ◌||◌, ℕ, ℤ, pos, ⊤, Bool, false, not, List, [], ◌∷◌, ◌++◌, Option, Some, None, Result, IsErr, map, filter, if◌then◌else◌, nat_lt, nat_le}
+use Rattle.std.specs.Prelude.{◌≡◌, ◌^◌, ◌+◌, ◌-◌, ◌&&◌, ℕ, ℤ, pos, ⊤, Bool, false, not, List, [], ◌∷◌, ◌++◌, Option, Some, None, Result, IsErr, map, filter, if◌then◌else◌, nat_lt, nat_le}
 use Rattle.std.specs.Option.{option_map, option_map_or}
 use Rattle.dv_value.specs.declared.id.Id.{Id}
 use Rattle.dv_value.specs.declared.kind.Kind.TheVariants as kind
@@ -19,7 +19,6 @@ use Rattle.dv_work.specs.History.{History}
 use Rattle.dv_store.specs.Keys.{row_key}
 use Rattle.dv_store.specs.World.{World, row_put, bumped, id_drawn, is_there, row_total, most_rows}
 use Rattle.dv_store.specs.declared.row.Row.{Row}
-use Rattle.dv_store.specs.declared.fault.StoreFault.TheVariants.{Limit}
 use Rattle.dv_access.specs.Reaches.{Reaches}
 use Rattle.dv_access.specs.Denial.{IsDenial}
 use Rattle.dv_access.specs.declared.denied.Denied.{Denied}

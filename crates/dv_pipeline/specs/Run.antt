@@ -1,12 +1,13 @@
 -- What one request on rows does: the world after it, and its reply or refusal.
-use Rattle.std.specs.Prelude.{◌≡◌, ℕ, ℤ, List, [], ◌∷◌, Option, Some, None, Result, Ok, Err}
+use Rattle.std.specs.Prelude.{◌≡◌, ℕ, ℤ, IsTrue, List, Option, Some, None, Result, Ok, Err}
 use Rattle.dv_value.specs.declared.id.Id.{Id}
 use Rattle.dv_refusal.specs.declared.refusal.Refusal.{Refusal}
 use Rattle.dv_refusal.specs.declared.refusal.Refusal.TheVariants as refusal
 use Rattle.dv_schema.specs.declared.definition.Definition.{Definition}
 use Rattle.dv_schema.specs.declared.table.Table.{Table}
 use Rattle.dv_units.specs.Chart.{Chart}
-use Rattle.dv_units.specs.Membership.{unit_of, IsNextTeam}
+use Rattle.dv_units.specs.Membership.{unit_of, is_in_team}
+use Rattle.dv_access.specs.View.{AreExactly}
 use Rattle.dv_roles.specs.State.{State}
 use Rattle.dv_store.specs.World.{World}
 use Rattle.dv_store.specs.Cursors.{told_of}
@@ -27,14 +28,13 @@ use Rattle.dv_pipeline.specs.Requests.{start_fault}
 use Rattle.dv_pipeline.specs.Creating.{Creating, RunsCreating}
 use Rattle.dv_pipeline.specs.Querying.{Querying, Sight, sight_of, RunsQuerying}
 
--- the teams of a user past one of them, or all: the first, then the first past that, until there is none
-unfoldable pub AreTeams : Chart → Id → Option Id → List Id → Type 0
-AreTeams chart user after [] = IsNextTeam chart user after None
-AreTeams chart user after (team ∷ teams) = IsNextTeam chart user after (Some team) × AreTeams chart user (Some team) teams
+-- the teams of a user, in ascending order, each once
+abbrev pub AreTeams : Chart → Id → List Id → Type 0
+AreTeams chart user teams = AreExactly (λ team. IsTrue (is_in_team chart user team)) teams
 
 -- what a caller is told of itself: its business unit, and its teams in ascending order
 abbrev pub TellsCaller : State → Id → Reply → Type 0
-TellsCaller d user reply = (unit : Id) × (teams : List Id) × (unit_of d.chart user ≡ Some unit) × AreTeams d.chart user None teams × (reply ≡ Caller user unit teams)
+TellsCaller d user reply = (unit : Id) × (teams : List Id) × (unit_of d.chart user ≡ Some unit) × AreTeams d.chart user teams × (reply ≡ Caller user unit teams)
 
 -- the creation of a row
 unfoldable pub RunsCreation : Option (ℕ × Table) → State → World → Id → ℤ → List ℕ → Option Id → List (List ℕ × Rattle.dv_value.specs.declared.raw.Raw.Raw) → World → Result Reply Refusal → Type 0

@@ -12,7 +12,7 @@ use std::alloc::{AllocError, Global};
 
 /// The teams of a user, in ascending order.
 fn teams_of(alloc: Global, units: &Units, user: Id) -> Result<Items<Id>, AllocError>
-    ensures { IfOk result (AreTeams units.now user None) }
+    ensures { IfOk result (AreTeams units.now user) }
 {
     let mut teams = Items::new(alloc);
     let mut after = None;
