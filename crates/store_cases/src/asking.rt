@@ -11,61 +11,91 @@ use std::alloc::AllocError;
 
 /// Writes the answer to a question. The words that it has stand behind a blank each.
 pub fn ask(scene: &Scene<'_>, words: &[&str], out: &mut String) -> Result<(), Fault> {
-    match words {
-        ["row", table, id] => ask_row(scene, table, id_of(id)?, out),
-        ["grant", table, id, principal] => {
-            let table = scene.table(table)?;
-            let rights = scene.store.grant(table, id_of(id)?, id_of(principal)?);
-            Ok(write!(out, " {} {}", rights.0, rights.1)?)
-        }
-        ["count", table] => Ok(write!(out, " {}", count(&scene.store, scene.table(table)?))?),
-        ["dirty"] => Ok(dirty(scene, out)?),
-        ["numbers"] => ask_numbers(scene, out),
-        ["mark"] => Ok(write!(out, " {}", scene.store.mark())?),
-        ["changes", mark] => ask_changes(scene, mark.parse::<usize>()?, out),
-        ["rows" | "removals", table] => ask_table(scene, words, table, None, out),
-        ["rows" | "removals", table, after] => {
-            ask_table(scene, words, table, Some(id_of(after)?), out)
-        }
-        [word, list, id] => ask_list(scene, word, list, id_of(id)?, None, out),
-        [word, list, id, after] => {
-            ask_list(scene, word, list, id_of(id)?, Some(id_of(after)?), out)
-        }
-        _ => Err(Fault::Wrong("no question")),
+    let Some((word, rest)) = words.split_first() else {
+        return Err(Fault::Wrong("no question"));
+    };
+    match *word {
+        "row" => ask_row(scene, rest, out),
+        "grant" => ask_grant(scene, rest, out),
+        "count" => ask_count(scene, rest, out),
+        "changes" => ask_changes(scene, rest, out),
+        "rows" | "removals" => ask_table(scene, word, rest, out),
+        "dirty" | "numbers" | "mark" => ask_whole(scene, word, rest, out),
+        _ => ask_list(scene, word, rest, out),
     }
 }
 
-fn ask_row(scene: &Scene<'_>, table: &str, id: Id, out: &mut String) -> Result<(), Fault> {
-    let number = scene.table(table)?;
-    match scene.store.row(number, id) {
-        Some(row) => {
-            out.push_str(" row")?;
-            Ok(show_row(scene.table_at(number)?, row, out)?)
-        }
-        None => Ok(()),
-    }
+fn ask_row(scene: &Scene<'_>, words: &[&str], out: &mut String) -> Result<(), Fault> {
+    let [table, id] = words else {
+        return Err(Fault::Wrong("no row to ask for"));
+    };
+    let key = scene.row_key(table, id)?;
+    let Some(row) = scene.store.row(key.table, key.id) else {
+        return Ok(());
+    };
+    let table = scene.table_at(key.table)?;
+    out.push_str(" row")?;
+    Ok(show_row(table, row, out)?)
 }
 
-fn ask_numbers(scene: &Scene<'_>, out: &mut String) -> Result<(), Fault> {
+fn ask_grant(scene: &Scene<'_>, words: &[&str], out: &mut String) -> Result<(), Fault> {
+    let [table, id, principal] = words else {
+        return Err(Fault::Wrong("no grant to ask for"));
+    };
+    let row = scene.row_key(table, id)?;
+    let principal = id_of(principal)?;
+    let (direct, inherited) = scene.store.grant(row.table, row.id, principal);
+    Ok(write!(out, " {direct} {inherited}")?)
+}
+
+fn ask_count(scene: &Scene<'_>, words: &[&str], out: &mut String) -> Result<(), Fault> {
+    let [table] = words else {
+        return Err(Fault::Wrong("no table to count"));
+    };
+    let table = scene.table(table)?;
+    let rows = count(&scene.store, table);
+    Ok(write!(out, " {rows}")?)
+}
+
+// The questions about the whole store.
+fn ask_whole(scene: &Scene<'_>, word: &str, words: &[&str], out: &mut String) -> Result<(), Fault> {
+    if !words.is_empty() {
+        return Err(Fault::Wrong("no question"));
+    }
+    match word {
+        "dirty" => dirty(scene, out)?,
+        "numbers" => show_numbers(scene, out)?,
+        _ => write!(out, " {}", scene.store.mark())?,
+    }
+    Ok(())
+}
+
+fn show_numbers(scene: &Scene<'_>, out: &mut String) -> Result<(), AllocError> {
     let numbers = scene.store.numbers();
     write!(
         out,
         " version {} id {} floor {}",
         numbers.version, numbers.last_id, numbers.floor
-    )?;
-    Ok(())
+    )
+}
+
+// The id that may follow a list: only what is past it is told.
+fn past(words: &[&str]) -> Result<Option<Id>, Fault> {
+    match words {
+        [] => Ok(None),
+        [after] => Ok(Some(id_of(after)?)),
+        _ => Err(Fault::Wrong("no question")),
+    }
 }
 
 // The rows or the removals of a table.
-fn ask_table(
-    scene: &Scene<'_>,
-    words: &[&str],
-    table: &str,
-    after: Option<Id>,
-    out: &mut String,
-) -> Result<(), Fault> {
+fn ask_table(scene: &Scene<'_>, word: &str, words: &[&str], out: &mut String) -> Result<(), Fault> {
+    let [table, rest @ ..] = words else {
+        return Err(Fault::Wrong("no table to ask for"));
+    };
     let table = scene.table(table)?;
-    if words.first() == Some(&"rows") {
+    let after = past(rest)?;
+    if word == "rows" {
         rows(&scene.store, table, after, out)?;
     } else {
         removals(&scene.store, table, after, out)?;
@@ -74,14 +104,12 @@ fn ask_table(
 }
 
 // A list of rows, or of principals.
-fn ask_list(
-    scene: &Scene<'_>,
-    word: &str,
-    list: &str,
-    id: Id,
-    after: Option<Id>,
-    out: &mut String,
-) -> Result<(), Fault> {
+fn ask_list(scene: &Scene<'_>, word: &str, words: &[&str], out: &mut String) -> Result<(), Fault> {
+    let [list, id, rest @ ..] = words else {
+        return Err(Fault::Wrong("no question"));
+    };
+    let id = id_of(id)?;
+    let after = past(rest)?;
     let store = &scene.store;
     match word {
         "owned" => owned(store, scene.table(list)?, id, after, out)?,
@@ -93,7 +121,11 @@ fn ask_list(
     Ok(())
 }
 
-fn ask_changes(scene: &Scene<'_>, mark: usize, out: &mut String) -> Result<(), Fault> {
+fn ask_changes(scene: &Scene<'_>, words: &[&str], out: &mut String) -> Result<(), Fault> {
+    let [mark] = words else {
+        return Err(Fault::Wrong("no mark to tell changes of"));
+    };
+    let mark = mark.parse::<usize>()?;
     if mark > scene.store.mark() {
         return Err(Fault::Wrong("no mark to tell changes of"));
     }

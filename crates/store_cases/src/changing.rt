@@ -1,68 +1,39 @@
 //! The lines that change a store.
 use crate::rows::{row_of, value_of};
 use crate::scene::{Scene, column_of, id_of};
-use crate::sharing::{Shared, reshare, share, unshare};
+use crate::sharing::{reshare, share, unshare};
 use case_notation::Fault;
 use dv_refusal::What;
-use dv_store::{Row, RowKey, StoreFault};
-use dv_value::Id;
+use dv_store::{RowKey, StoreFault};
+use dv_value::{Id, Value};
 
 /// Changes a store as words say, or tells the limit that refuses it.
 pub fn change(scene: &mut Scene<'_>, words: &[&str]) -> Result<Option<What>, Fault> {
-    match words {
-        ["put", table, id, values @ ..] => put(scene, table, id, values),
-        ["puts", table, first, count] => puts(scene, table, first, count),
-        ["remove", table, id] => remove(scene, table, id),
-        ["grant", table, id, principal, direct, inherited] => {
-            let rights = (direct.parse::<u32>()?, inherited.parse::<u32>()?);
-            grant(scene, table, id, id_of(principal)?, rights)
-        }
-        ["grants", table, id, first, count] => grants(scene, table, id, first, count),
-        ["share", table, id, principal, rest @ ..] => {
-            share(
-                scene,
-                Shared {
-                    table,
-                    id,
-                    principal,
-                    rest,
-                },
-            )
-        }
-        ["unshare", table, id, principal, rest @ ..] => {
-            unshare(
-                scene,
-                Shared {
-                    table,
-                    id,
-                    principal,
-                    rest,
-                },
-            )
-        }
-        ["reshare", table, id, principal, rest @ ..] => {
-            reshare(
-                scene,
-                Shared {
-                    table,
-                    id,
-                    principal,
-                    rest,
-                },
-            )
-        }
-        ["rollup", table, id, column, value, state, date] => {
-            let stamp = (state.parse::<i32>()?, date.parse::<i64>()?);
-            rollup(scene, table, id, column, value, stamp)
-        }
-        ["floor", floor] => raise_floor(scene, floor.parse::<u64>()?),
-        ["bump"] => bump(scene),
-        ["id"] => fresh_id(scene),
-        ["undo", mark] => undo(scene, mark.parse::<usize>()?),
-        ["forget"] => {
-            scene.store.forget();
-            Ok(None)
-        }
+    let Some((word, rest)) = words.split_first() else {
+        return Err(Fault::Wrong("no change"));
+    };
+    match *word {
+        "put" => put(scene, rest),
+        "puts" => puts(scene, rest),
+        "remove" => remove(scene, rest),
+        "rollup" => rollup(scene, rest),
+        "grant" => grant(scene, rest),
+        "grants" => grants(scene, rest),
+        "share" => share(scene, rest),
+        "unshare" => unshare(scene, rest),
+        "reshare" => reshare(scene, rest),
+        _ => change_state(scene, word, rest),
+    }
+}
+
+// The changes of counters, and those of which states there are.
+fn change_state(scene: &mut Scene<'_>, word: &str, rest: &[&str]) -> Result<Option<What>, Fault> {
+    match (word, rest) {
+        ("bump", []) => bump(scene),
+        ("id", []) => fresh_id(scene),
+        ("forget", []) => forget(scene),
+        ("floor", [floor]) => raise_floor(scene, floor),
+        ("undo", [mark]) => undo_to(scene, mark),
         _ => Err(Fault::Wrong("no change")),
     }
 }
@@ -76,27 +47,24 @@ pub fn limit_of(outcome: Result<(), StoreFault>) -> Result<Option<What>, Fault> 
     }
 }
 
-fn put(
-    scene: &mut Scene<'_>,
-    table: &str,
-    id: &str,
-    values: &[&str],
-) -> Result<Option<What>, Fault> {
+fn put(scene: &mut Scene<'_>, words: &[&str]) -> Result<Option<What>, Fault> {
+    let [table, id, values @ ..] = words else {
+        return Err(Fault::Wrong("no row to put"));
+    };
     let number = scene.table(table)?;
-    let row: Row = row_of(scene.alloc, scene.table_at(number)?, values)?;
-    limit_of(scene.store.put_row(number, id_of(id)?, row))
+    let id = id_of(id)?;
+    let row = row_of(scene.alloc, scene.table_at(number)?, values)?;
+    limit_of(scene.store.put_row(number, id, row))
 }
 
 // Puts rows with nothing in them, with ascending ids.
-fn puts(
-    scene: &mut Scene<'_>,
-    table: &str,
-    first: &str,
-    count: &str,
-) -> Result<Option<What>, Fault> {
+fn puts(scene: &mut Scene<'_>, words: &[&str]) -> Result<Option<What>, Fault> {
+    let [table, first, count] = words else {
+        return Err(Fault::Wrong("no rows to put"));
+    };
     let number = scene.table(table)?;
     let mut id = id_of(first)?;
-    for _ in 0..count.parse::<u32>()? {
+    for _ in 0..number_of(count)? {
         let row = row_of(scene.alloc, scene.table_at(number)?, &[])?;
         let refused = limit_of(scene.store.put_row(number, id, row))?;
         if refused.is_some() {
@@ -107,7 +75,10 @@ fn puts(
     Ok(None)
 }
 
-fn remove(scene: &mut Scene<'_>, table: &str, id: &str) -> Result<Option<What>, Fault> {
+fn remove(scene: &mut Scene<'_>, words: &[&str]) -> Result<Option<What>, Fault> {
+    let [table, id] = words else {
+        return Err(Fault::Wrong("no row to remove"));
+    };
     let number = scene.table(table)?;
     let id = id_of(id)?;
     if scene.store.row(number, id).is_none() {
@@ -117,37 +88,45 @@ fn remove(scene: &mut Scene<'_>, table: &str, id: &str) -> Result<Option<What>, 
     Ok(None)
 }
 
-fn grant(
+// A number of a word.
+fn number_of(word: &str) -> Result<u32, Fault> {
+    Ok(word.parse::<u32>()?)
+}
+
+fn grant(scene: &mut Scene<'_>, words: &[&str]) -> Result<Option<What>, Fault> {
+    let [table, id, principal, direct, inherited] = words else {
+        return Err(Fault::Wrong("no grant"));
+    };
+    let row = scene.row_key(table, id)?;
+    let principal = id_of(principal)?;
+    let direct = number_of(direct)?;
+    let inherited = number_of(inherited)?;
+    set_grant(scene, row, principal, direct, inherited)
+}
+
+fn set_grant(
     scene: &mut Scene<'_>,
-    table: &str,
-    id: &str,
+    row: RowKey,
     principal: Id,
-    rights: (u32, u32),
+    direct: u32,
+    inherited: u32,
 ) -> Result<Option<What>, Fault> {
-    let number = scene.table(table)?;
-    let id = id_of(id)?;
-    if scene.store.row(number, id).is_none() || !scene.store.is_owned(number) {
+    let store = &mut scene.store;
+    if store.row(row.table, row.id).is_none() || !store.is_owned(row.table) {
         return Err(Fault::Wrong("no row to grant rights on"));
     }
-    let (direct, inherited) = rights;
-    limit_of(
-        scene
-            .store
-            .set_grant(number, id, principal, direct, inherited),
-    )
+    limit_of(store.set_grant(row.table, row.id, principal, direct, inherited))
 }
 
 // Grants a right on a row to principals with ascending ids.
-fn grants(
-    scene: &mut Scene<'_>,
-    table: &str,
-    id: &str,
-    first: &str,
-    count: &str,
-) -> Result<Option<What>, Fault> {
+fn grants(scene: &mut Scene<'_>, words: &[&str]) -> Result<Option<What>, Fault> {
+    let [table, id, first, count] = words else {
+        return Err(Fault::Wrong("no grants"));
+    };
+    let row = scene.row_key(table, id)?;
     let mut principal = id_of(first)?;
-    for _ in 0..count.parse::<u32>()? {
-        let refused = grant(scene, table, id, principal, (1, 0))?;
+    for _ in 0..number_of(count)? {
+        let refused = set_grant(scene, row, principal, 1, 0)?;
         if refused.is_some() {
             return Ok(refused);
         }
@@ -156,32 +135,33 @@ fn grants(
     Ok(None)
 }
 
-fn rollup(
-    scene: &mut Scene<'_>,
-    table: &str,
-    id: &str,
-    column: &str,
-    value: &str,
-    stamp: (i32, i64),
-) -> Result<Option<What>, Fault> {
-    let number = scene.table(table)?;
-    let id = id_of(id)?;
-    let of = scene.table_at(number)?;
-    let column = column_of(of, column)?;
-    let Some(calculated) = of.columns.get(usize::from(column)) else {
-        return Err(Fault::Wrong("no column"));
+fn rollup(scene: &mut Scene<'_>, words: &[&str]) -> Result<Option<What>, Fault> {
+    let [table, id, column, value, state, date] = words else {
+        return Err(Fault::Wrong("no rollup"));
     };
-    let value = value_of(scene.alloc, &calculated.kind, value)?;
-    if scene.store.row(number, id).is_none() {
+    let row = scene.row_key(table, id)?;
+    let column = column_of(scene.table_at(row.table)?, column)?;
+    let value = rollup_value(scene, row, column, value)?;
+    let state = state.parse::<i32>()?;
+    let date = date.parse::<i64>()?;
+    if scene.store.row(row.table, row.id).is_none() {
         return Err(Fault::Wrong("no row with a rollup"));
     }
-    let row = RowKey { table: number, id };
-    let (state, date) = stamp;
     scene.store.set_rollup(row, column, value, state, date)?;
     Ok(None)
 }
 
-fn raise_floor(scene: &mut Scene<'_>, floor: u64) -> Result<Option<What>, Fault> {
+// The value of a word for a column of a row.
+fn rollup_value(scene: &Scene<'_>, row: RowKey, column: u16, value: &str) -> Result<Value, Fault> {
+    let table = scene.table_at(row.table)?;
+    match table.columns.get(usize::from(column)) {
+        Some(column) => value_of(scene.alloc, &column.kind, value),
+        None => Err(Fault::Wrong("no column")),
+    }
+}
+
+fn raise_floor(scene: &mut Scene<'_>, floor: &str) -> Result<Option<What>, Fault> {
+    let floor = floor.parse::<u64>()?;
     let numbers = scene.store.numbers();
     if floor < numbers.floor || floor > numbers.version {
         return Err(Fault::Wrong("no floor to raise to"));
@@ -206,6 +186,15 @@ fn fresh_id(scene: &mut Scene<'_>) -> Result<Option<What>, Fault> {
         Err(StoreFault::Limit(what)) => Ok(Some(what)),
         Err(StoreFault::OutOfMemory) => Err(Fault::OutOfMemory),
     }
+}
+
+fn forget(scene: &mut Scene<'_>) -> Result<Option<What>, Fault> {
+    scene.store.forget();
+    Ok(None)
+}
+
+fn undo_to(scene: &mut Scene<'_>, mark: &str) -> Result<Option<What>, Fault> {
+    undo(scene, mark.parse::<usize>()?)
 }
 
 /// Goes back to a mark.

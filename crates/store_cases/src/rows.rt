@@ -37,13 +37,29 @@ pub fn value_of(alloc: Global, kind: &Kind, word: &str) -> Result<Value, Fault> 
     }
     match kind {
         Kind::Flag => Ok(Value::Flag(word == "true")),
-        Kind::Whole { .. } => Ok(Value::Whole(word.parse::<i32>()?)),
-        Kind::Choice { .. } => Ok(Value::Choice(word.parse::<i32>()?)),
-        Kind::Amount { .. } => Ok(Value::Amount(word.parse::<i64>()?)),
-        Kind::Moment => Ok(Value::Moment(word.parse::<i64>()?)),
-        Kind::Text { .. } => Ok(Value::Text(Text::from_str(alloc, word)?)),
+        Kind::Whole { .. } => Ok(Value::Whole(short_of(word)?)),
+        Kind::Choice { .. } => Ok(Value::Choice(short_of(word)?)),
+        Kind::Amount { .. } => Ok(Value::Amount(long_of(word)?)),
+        Kind::Moment => Ok(Value::Moment(long_of(word)?)),
+        Kind::Text { .. } => text_of(alloc, word),
         Kind::Ref => Ok(Value::Ref(id_of(word)?)),
     }
+}
+
+// The number of a word.
+fn short_of(word: &str) -> Result<i32, Fault> {
+    Ok(word.parse::<i32>()?)
+}
+
+// The number of a word, which may be greater.
+fn long_of(word: &str) -> Result<i64, Fault> {
+    Ok(word.parse::<i64>()?)
+}
+
+// The text of a word.
+fn text_of(alloc: Global, word: &str) -> Result<Value, Fault> {
+    let text = Text::from_str(alloc, word)?;
+    Ok(Value::Text(text))
 }
 
 /// Writes a row's values that aren't empty, each behind its column's name and `=`.
@@ -64,11 +80,15 @@ fn show_value(name: &str, value: &Value, out: &mut String) -> Result<(), AllocEr
     match value {
         Value::Empty => Ok(()),
         Value::Flag(flag) => write!(out, " {name}={flag}"),
-        Value::Whole(number) => write!(out, " {name}={number}"),
-        Value::Choice(number) => write!(out, " {name}={number}"),
-        Value::Amount(amount) => write!(out, " {name}={amount}"),
-        Value::Moment(seconds) => write!(out, " {name}={seconds}"),
+        Value::Whole(number) | Value::Choice(number) => {
+            show_number(name, i64::from(*number), out)
+        }
+        Value::Amount(number) | Value::Moment(number) => show_number(name, *number, out),
         Value::Text(text) => write!(out, " {name}={}", text.as_str()),
         Value::Ref(id) => write!(out, " {name}=#{}", id.0),
     }
+}
+
+fn show_number(name: &str, number: i64, out: &mut String) -> Result<(), AllocError> {
+    write!(out, " {name}={number}")
 }

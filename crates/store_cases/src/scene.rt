@@ -1,7 +1,7 @@
 //! A store with the definition that it was made of, and the words that name its parts.
 use case_notation::{Fault, bytes_of, found};
 use dv_meta::{DefFault, Definition, Table, read_definition};
-use dv_store::Store;
+use dv_store::{RowKey, Store};
 use dv_value::Id;
 use std::alloc::{AllocError, Global};
 use std::fs;
@@ -28,6 +28,13 @@ impl<'a> Scene<'a> {
     /// The number of the table of a name.
     pub fn table(&self, name: &str) -> Result<u16, Fault> {
         found(self.definition.table(name), "no table")
+    }
+
+    /// The place of the row of these words.
+    pub fn row_key(&self, table: &str, id: &str) -> Result<RowKey, Fault> {
+        let table = self.table(table)?;
+        let id = id_of(id)?;
+        Ok(RowKey { table, id })
     }
 
     /// The table of a number.

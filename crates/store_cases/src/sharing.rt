@@ -6,24 +6,12 @@ use dv_refusal::What;
 use dv_shares::{grant, modify, revoke};
 use dv_store::RowKey;
 
-/// A row and a principal, and what is said of them further.
-#[derive(Clone, Copy)]
-pub struct Shared<'a> {
-    pub table: &'a str,
-    pub id: &'a str,
-    pub principal: &'a str,
-    pub rest: &'a [&'a str],
-}
-
 // The row of a word as `account:#1`.
 fn row_in(scene: &Scene<'_>, word: &str) -> Result<RowKey, Fault> {
-    let Some((table, id)) = word.split_once(':') else {
-        return Err(Fault::Wrong("no row"));
-    };
-    Ok(RowKey {
-        table: scene.table(table)?,
-        id: id_of(id)?,
-    })
+    match word.split_once(':') {
+        Some((table, id)) => scene.row_key(table, id),
+        None => Err(Fault::Wrong("no row")),
+    }
 }
 
 // The rows of words, up to the word `then`.
@@ -51,44 +39,40 @@ fn set_behind(scene: &Scene<'_>, words: &[&str]) -> Result<Vec<RowKey>, Fault> {
     Ok(set)
 }
 
-fn target_of(scene: &Scene<'_>, shared: Shared<'_>) -> Result<RowKey, Fault> {
-    Ok(RowKey {
-        table: scene.table(shared.table)?,
-        id: id_of(shared.id)?,
-    })
-}
-
-/// Grants rights: the first word is the mask, the others are the set.
-pub fn share(scene: &mut Scene<'_>, shared: Shared<'_>) -> Result<Option<What>, Fault> {
-    let Some((mask, words)) = shared.rest.split_first() else {
-        return Err(Fault::Wrong("no rights"));
+/// Grants rights: behind the row and the principal stands the mask, and then the set.
+pub fn share(scene: &mut Scene<'_>, words: &[&str]) -> Result<Option<What>, Fault> {
+    let [table, id, principal, mask, rows @ ..] = words else {
+        return Err(Fault::Wrong("no share"));
     };
-    let set = set_of(scene, words)?;
-    let target = target_of(scene, shared)?;
-    let principal = id_of(shared.principal)?;
+    let target = scene.row_key(table, id)?;
+    let principal = id_of(principal)?;
     let mask = mask.parse::<u32>()?;
+    let set = set_of(scene, rows)?;
     limit_of(grant(&mut scene.store, set.as_slice(), target, principal, mask))
 }
 
-/// Revokes rights: the words are the set.
-pub fn unshare(scene: &mut Scene<'_>, shared: Shared<'_>) -> Result<Option<What>, Fault> {
-    let set = set_of(scene, shared.rest)?;
-    let target = target_of(scene, shared)?;
-    let principal = id_of(shared.principal)?;
+/// Revokes rights: behind the row and the principal stands the set.
+pub fn unshare(scene: &mut Scene<'_>, words: &[&str]) -> Result<Option<What>, Fault> {
+    let [table, id, principal, rows @ ..] = words else {
+        return Err(Fault::Wrong("no share to take back"));
+    };
+    let target = scene.row_key(table, id)?;
+    let principal = id_of(principal)?;
+    let set = set_of(scene, rows)?;
     revoke(&mut scene.store, set.as_slice(), target, principal)?;
     Ok(None)
 }
 
-/// Modifies rights: the first word is the mask, the others are both sets.
-pub fn reshare(scene: &mut Scene<'_>, shared: Shared<'_>) -> Result<Option<What>, Fault> {
-    let Some((mask, words)) = shared.rest.split_first() else {
-        return Err(Fault::Wrong("no rights"));
+/// Modifies rights: behind the row and the principal stands the mask, and then both sets.
+pub fn reshare(scene: &mut Scene<'_>, words: &[&str]) -> Result<Option<What>, Fault> {
+    let [table, id, principal, mask, rows @ ..] = words else {
+        return Err(Fault::Wrong("no share to modify"));
     };
-    let before = set_of(scene, words)?;
-    let after = set_behind(scene, words)?;
-    let target = target_of(scene, shared)?;
-    let principal = id_of(shared.principal)?;
+    let target = scene.row_key(table, id)?;
+    let principal = id_of(principal)?;
     let mask = mask.parse::<u32>()?;
+    let before = set_of(scene, rows)?;
+    let after = set_behind(scene, rows)?;
     limit_of(modify(
         &mut scene.store,
         before.as_slice(),

@@ -48,11 +48,7 @@ fn show_table(scene: &Scene<'_>, table: u16, out: &mut String) -> Result<(), All
 // The row of an id with its grants, and the rows that it owns or has grants on.
 fn show_id(scene: &Scene<'_>, table: u16, id: Id, out: &mut String) -> Result<(), AllocError> {
     write!(out, "#{}", id.0)?;
-    if let Some(row) = scene.store.row(table, id) {
-        if let Some(of) = scene.definition.tables().get(usize::from(table)) {
-            show_row(of, row, out)?;
-        }
-    }
+    show_values(scene, table, id, out)?;
     out.push_str(" granted")?;
     principals(&scene.store, table, id, None, out)?;
     out.push_str(" owns")?;
@@ -60,6 +56,17 @@ fn show_id(scene: &Scene<'_>, table: u16, id: Id, out: &mut String) -> Result<()
     out.push_str(" shares")?;
     shared(&scene.store, table, id, None, out)?;
     out.push('\n')
+}
+
+// The values of the row of an id, if it is there.
+fn show_values(scene: &Scene<'_>, table: u16, id: Id, out: &mut String) -> Result<(), AllocError> {
+    let Some(row) = scene.store.row(table, id) else {
+        return Ok(());
+    };
+    match scene.definition.tables().get(usize::from(table)) {
+        Some(of) => show_row(of, row, out),
+        None => Ok(()),
+    }
 }
 
 // The children of each id by a relationship.
