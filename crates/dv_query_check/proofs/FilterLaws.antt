@@ -8,9 +8,8 @@ use Rattle.dv_query.specs.declared.filter.Filter.TheViews.{out-Filter}
 use Rattle.dv_query.specs.declared.filter.Filter.TheFolds.{fold_out-Filter}
 use Rattle.dv_query.specs.declared.filter.Condition.{Condition}
 use Rattle.dv_query_check.specs.declared.filters.PlacedFilter.{PlacedFilter}
-use Rattle.dv_query_check.specs.Filters.{FilterAt, filter_step, filters_in}
+use Rattle.dv_query_check.specs.Filters.{FilterAt, in_turn, filter_step, filters_in}
 use Rattle.dv_query_check.specs.Placed.{filter_at}
-use Rattle.dv_query_check.specs.Links.{in_turn}
 use Rattle.dv_query_check.specs.Places.{member}
 
 -- a filter, and those in it

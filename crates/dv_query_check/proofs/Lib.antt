@@ -6,3 +6,8 @@ pub mod MapLaws
 pub mod FaultLaws
 pub mod AcceptedLaws
 pub mod TypedLaws
+pub mod EachLaws
+pub mod ResolvedLaws
+pub mod EveryLaws
+pub mod ComparandLaws
+pub mod FormLaws

@@ -5,6 +5,7 @@ use Rattle.dv_schema.specs.declared.table.Table.{Table}
 use Rattle.dv_query_check.specs.declared.placed.PlacedLink.{PlacedLink}
 use Rattle.dv_query_check.specs.Links.{LinkAt}
 use Rattle.dv_query_check.specs.Placed.{link_at}
+use Rattle.dv_query_check.specs.Resolved.{link_source}
 
 pub any_mapped : {A B : Type 0} (p : B → Bool) (f : A → B) (xs : List A) → list_any p (map f xs) ≡ list_any (λ x. p (f x)) xs
 any_mapped p f [] = refl
@@ -24,3 +25,8 @@ pub table_found : (p : LinkAt → Bool) (links : List PlacedLink) (o : Option Pl
 unfolding link_at
 table_found p links None table e at = sym at ∙ sym (ap (option_and_then (λ (l : LinkAt). l.table)) (find_mapped p link_at links ∙ ap (option_map link_at) (sym e)))
 table_found p links (Some l) table e at = sym at ∙ sym (ap (option_and_then (λ (m : LinkAt). m.table)) (find_mapped p link_at links ∙ ap (option_map link_at) (sym e)))
+
+-- the source that a link is which is found
+pub source_found : (p : LinkAt → Bool) (links : List PlacedLink) (o : Option PlacedLink) → o ≡ find (λ l. p (link_at l)) links → option_map (λ l. link_source (link_at l)) o ≡ option_map link_source (find p (map link_at links))
+source_found p links None e = sym (ap (option_map link_source) (find_mapped p link_at links ∙ ap (option_map link_at) (sym e)))
+source_found p links (Some l) e = sym (ap (option_map link_source) (find_mapped p link_at links ∙ ap (option_map link_at) (sym e)))

@@ -1,5 +1,5 @@
 -- A query without a fault is well typed.
-use Rattle.std.proofs.Common.{◌≡◌, ℕ, ◌&&◌, true, false, not, List, length, slice_get, take, Option, Some, None, option_map, option_and_then, encode_utf8_all, refl, sym, ap, ◌∙◌, subst}
+use Rattle.std.proofs.Common.{◌≡◌, ℕ, ◌&&◌, true, false, not, List, length, slice_get, take, Option, Some, None, option_map, option_and_then, encode_utf8_all, refl, ap, ◌∙◌, subst}
 use Rattle.std.specs.List.{list_any, find}
 use Rattle.std.specs.Option.{option_or, is_some}
 use Rattle.dv_form.specs.Spellings.{is_name}

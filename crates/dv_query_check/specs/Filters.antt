@@ -1,12 +1,12 @@
 -- The filters of a query, each before those in it, and then those of its links in the links' preorder. The conditions of a query in preorder are those of these filters.
-use Rattle.std.specs.Prelude.{ℕ, Bool, true, false, List, [], ◌∷◌, ◌++◌, flat_map, sum_by, length, nat_lt, codes, Option, Some, None}
+use Rattle.std.specs.Prelude.{ℕ, ◌+◌, Bool, true, false, List, [], ◌∷◌, ◌++◌, flat_map, sum_by, length, nat_lt, codes, Option, Some, None}
 use Rattle.dv_schema.specs.declared.table.Table.{Table}
 use Rattle.dv_query.specs.declared.filter.Condition.{Condition}
 use Rattle.dv_query.specs.declared.filter.Filter.{Filter}
 use Rattle.dv_query.specs.declared.filter.Filter.TheOpen.{Filter-F}
 use Rattle.dv_query.specs.declared.filter.Filter.TheFolds.{fold-Filter}
-use Rattle.dv_query_check.specs.Links.{LinkAt, in_turn}
-use Rattle.dv_query_check.specs.Places.{member}
+use Rattle.dv_query_check.specs.Links.{LinkAt}
+use Rattle.dv_query_check.specs.Places.{member, item}
 
 -- the conditions of a filter in its place
 pub record FilterAt : Type 0 where
@@ -16,6 +16,11 @@ pub record FilterAt : Type 0 where
   -- conditions may name a link
   pub names_links : Bool
   pub conditions : List Condition
+
+-- what is listed of the items of a list from number i on, each by its place
+unfoldable pub in_turn : {A : Type 0} → List ℕ → ℕ → List (List ℕ → List A) → List A
+in_turn place i [] = []
+in_turn place i (listed ∷ more) = listed (item place i) ++ in_turn place (i + 1) more
 
 -- a filter, followed by what is listed of those in it
 unfoldable pub filter_step : Option Table → Bool → Filter-F (List ℕ → List FilterAt) → List ℕ → List FilterAt

@@ -1,11 +1,11 @@
 pub mod Places
+pub mod Each
 pub mod Columns
 pub mod Faults
 pub mod Operators
 pub mod Operands
 pub mod Links
 pub mod Filters
-pub mod Placed
 pub mod Parts
 pub mod Base
 pub mod LinkFaults
@@ -13,3 +13,6 @@ pub mod ConditionFaults
 pub mod OrderFaults
 pub mod Queries
 pub mod Accepted
+pub mod Comparands
+pub mod Resolved
+pub mod Placed

@@ -1,10 +1,14 @@
 //! Tables and columns by name.
 
-ghost use Rattle.std.specs.Prelude.{◌≡◌, option_map};
+ghost use Rattle.std.specs.Prelude.{◌≡◌, IfOk, option_map, position};
+ghost use Rattle.dv_schema.specs.Names.{same_name};
 ghost use Rattle.dv_query_check.specs.Columns.{table_named, column_named, is_reference, has_reference, unknown_in};
+ghost use Rattle.dv_query_check.specs.Resolved.{column_number, column_numbers};
 
 use dv_schema::{Column, Definition, Table};
-use dv_value::{Kind, Text};
+use dv_value::{Kind, Text, items_with_capacity};
+use sqlite_items::Items;
+use std::alloc::{AllocError, Global};
 
 /// The table of a name.
 #[tactic(auto, unfolding(crate::specs::Columns::table_named))]
@@ -61,4 +65,42 @@ pub(crate) fn unknown_in(table: &Table, names: &[Text]) -> Option<usize>
     names
         .iter()
         .position(|name| column_named(table, name).is_none())
+}
+
+/// The number of the column of a name, where there are a table and such a column.
+#[tactic(auto, unfolding(crate::specs::Resolved::column_number))]
+pub(crate) fn column_number(table: Option<&Table>, name: &Text) -> Option<usize>
+    ensures { result ≡ column_number (option_map (λ t. t.now) table.entry) name.now }
+{
+    match table {
+        Some(table) => place_of(table.columns.as_slice(), name),
+        None => None,
+    }
+}
+
+// The place of the column of a name.
+fn place_of(columns: &[Column], name: &Text) -> Option<usize>
+    ensures { result ≡ position (λ column. same_name column.name name.now) columns.now }
+{
+    columns.iter().position(|column| column.name == *name)
+}
+
+/// The numbers of columns, where each name is that of one.
+#[tactic(auto, unfolding(crate::specs::Resolved::column_numbers))]
+pub(crate) fn column_numbers(
+    alloc: Global,
+    table: Option<&Table>,
+    names: &[Text],
+) -> Result<Option<Items<usize>>, AllocError>
+    ensures { IfOk result (λ numbers. numbers
+        ≡ column_numbers (option_map (λ t. t.now) table.entry) names.now) }
+{
+    let mut numbers = items_with_capacity(alloc, names.len())?;
+    for name in names {
+        match column_number(table, name) {
+            Some(number) => numbers.push(number)?,
+            None => return Ok(None),
+        }
+    }
+    Ok(Some(numbers))
 }

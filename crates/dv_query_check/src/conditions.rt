@@ -80,8 +80,11 @@ fn is_told_as(alias: &Text, link: &PlacedLink<'_>) -> bool
     !link.is_hidden && has_alias(alias, link)
 }
 
-// The first link whose rows are told under an alias.
-fn link_told_as<'b, 'a>(links: &'b [PlacedLink<'a>], alias: &Text) -> Option<&'b PlacedLink<'a>>
+/// The first link whose rows are told under an alias.
+pub(crate) fn link_told_as<'b, 'a>(
+    links: &'b [PlacedLink<'a>],
+    alias: &Text,
+) -> Option<&'b PlacedLink<'a>>
     ensures { option_map (λ l. l.now) result
         ≡ find (λ l. is_told_as alias.now (link_at l)) links.now }
 {

@@ -2,8 +2,8 @@
 
 ghost use Rattle.std.specs.Prelude.{◌≡◌, ◌++◌, ◌∷◌, [], ◌<◌, map, flat_map, option_map, length, nat_lt, codes, IfOk, OnOk};
 ghost use Rattle.dv_query_check.specs.Columns.{table_named};
-ghost use Rattle.dv_query_check.specs.Filters.{filters_in, filters_given, filters_of, filters_of_link, has_more_conditions};
-ghost use Rattle.dv_query_check.specs.Links.{in_turn, links_of};
+ghost use Rattle.dv_query_check.specs.Filters.{in_turn, filters_in, filters_given, filters_of, filters_of_link, has_more_conditions};
+ghost use Rattle.dv_query_check.specs.Links.{links_of};
 ghost use Rattle.dv_query_check.specs.Placed.{link_at, filter_at};
 
 use crate::path::Path;

@@ -8,10 +8,10 @@ use dv_query::Operator;
 use dv_value::{Id, Kind, Raw, Text, read_amount, read_moment};
 
 /// The most decimals that an amount has.
-const MOST_DECIMALS: u8 = 4;
+pub(crate) const MOST_DECIMALS: u8 = 4;
 
 /// The most days that a condition may count.
-const MOST_DAYS: i64 = 10_000;
+pub(crate) const MOST_DAYS: i64 = 10_000;
 
 /// The least and the greatest integer of 32 bits.
 const LEAST_SHORT: i64 = -2_147_483_648;

@@ -1,9 +1,9 @@
 //! The links of a query in preorder, each with its place, its table and the table that it stands under.
 
-ghost use Rattle.std.specs.Prelude.{◌≡◌, ◌++◌, ◌∷◌, [], ◌||◌, map, option_map, codes, IfOk, OnOk};
+ghost use Rattle.std.specs.Prelude.{◌≡◌, ◌+◌, ◌++◌, ◌∷◌, [], ◌||◌, length, map, option_map, codes, IfOk, OnOk};
 ghost use Rattle.dv_query.specs.declared.link.Link.{Link};
 ghost use Rattle.dv_query_check.specs.Columns.{table_named};
-ghost use Rattle.dv_query_check.specs.Links.{is_exists, links_at, links_under, links_of, in_turn};
+ghost use Rattle.dv_query_check.specs.Links.{is_exists, links_at, links_under, links_of, links_in_turn};
 ghost use Rattle.dv_query_check.specs.Placed.{link_at};
 ghost use Rattle.dv_query_check.specs.Places.{member};
 
@@ -17,6 +17,10 @@ use std::alloc::{AllocError, Global};
 #[derive(Drop)]
 pub(crate) struct PlacedLink<'a> {
     pub(crate) place: Path,
+    /// Its number among the sources: the query's own table is 0, and links count on in preorder.
+    pub(crate) number: usize,
+    /// The number of the source that it stands under.
+    pub(crate) above: usize,
     /// The table that it stands under, if there is one of that name.
     pub(crate) outer: Option<&'a Table>,
     /// Its own table, if there is one of that name.
@@ -29,6 +33,7 @@ pub(crate) struct PlacedLink<'a> {
 /// What links stand under.
 #[derive(Clone, Copy)]
 struct Above<'a> {
+    number: usize,
     table: Option<&'a Table>,
     is_hidden: bool,
 }
@@ -43,6 +48,7 @@ pub(crate) fn placed_links<'a>(
     ensures { IfOk result (λ links. map link_at links.items ≡ links_of def.now query.now) }
 {
     let above = Above {
+        number: 0,
         table: table_named(def, &query.table),
         is_hidden: false,
     };
@@ -70,8 +76,9 @@ fn add_links<'a>(
     placed: &mut Vec<PlacedLink<'a>>,
 ) -> Result<(), AllocError>
     ensures { OnOk result (map link_at placed.new.items ≡ map link_at placed.old.items
-        ++ in_turn place.now 0 (map (links_under def.now
-        (option_map (λ t. t.now) above.entry.table) above.entry.is_hidden) links.now)) }
+        ++ links_in_turn place.now 0 (length (map link_at placed.old.items) + 1)
+        (map (links_under def.now (option_map (λ t. t.now) above.entry.table)
+        above.entry.is_hidden above.entry.number) links.now)) }
 {
     for (i, link) in links.iter().enumerate() {
         add_link(alloc, def, link, above, place.item(alloc, i)?, placed)?;
@@ -91,8 +98,10 @@ fn add_link<'a>(
 ) -> Result<(), AllocError>
     ensures { OnOk result (map link_at placed.new.items ≡ map link_at placed.old.items
         ++ links_under def.now (option_map (λ t. t.now) above.entry.table)
-        above.entry.is_hidden link.now place) }
+        above.entry.is_hidden above.entry.number link.now
+        (length (map link_at placed.old.items) + 1) place) }
 {
+    let number = placed.as_slice().len() + 1;
     let table = table_named(def, &link.table);
     let is_hidden = is_hidden_under(above, link.join);
     let inside = place.member(alloc, "links")?;
@@ -100,13 +109,19 @@ fn add_link<'a>(
         placed,
         PlacedLink {
             place,
+            number,
+            above: above.number,
             outer: above.table,
             table,
             is_hidden,
             link,
         },
     )?;
-    let here = Above { table, is_hidden };
+    let here = Above {
+        number,
+        table,
+        is_hidden,
+    };
     add_links(alloc, def, link.links.as_slice(), here, &inside, placed)
 }
 

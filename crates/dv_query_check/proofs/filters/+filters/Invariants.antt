@@ -1,6 +1,5 @@
 use Rattle.std.proofs.Common.{◌≡◌, ◌++◌, map, drop, option_map}
-use Rattle.dv_query_check.specs.Filters.{filters_in}
-use Rattle.dv_query_check.specs.Links.{in_turn}
+use Rattle.dv_query_check.specs.Filters.{in_turn, filters_in}
 use Rattle.dv_query_check.specs.Placed.{filter_at}
 use Rattle.dv_query_check.proofs.filters.+filters.Given as goal
 
