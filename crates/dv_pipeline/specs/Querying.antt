@@ -1,13 +1,15 @@
 -- What a query shows: the rows of its table that the caller may read, and nothing of any other.
-use Rattle.std.specs.Prelude.{◌≡◌, ◌⊎◌, ◌+◌, ◌≤◌, ◌<◌, ◌++◌, ℕ, false, List, [], ◌∷◌, Option, Some, None, Result, codes, length, chars}
-use Rattle.std.specs.Fmt.{decimal}
+use Rattle.std.specs.Prelude.{◌≡◌, ◌⊎◌, ◌≤◌, ◌<◌, ℕ, false, List, [], ◌∷◌, Option, Some, None, option_map, Result, length, chars}
 use Rattle.dv_value.specs.declared.id.Id.{Id}
 use Rattle.dv_value.specs.declared.raw.Raw.{Raw}
 use Rattle.dv_refusal.specs.declared.refusal.Refusal.{Refusal}
 use Rattle.dv_refusal.specs.declared.refusal.Refusal.TheVariants as answer
+use Rattle.dv_schema.specs.declared.definition.Definition.{Definition}
 use Rattle.dv_schema.specs.declared.table.Table.{Table}
-use Rattle.dv_schema.specs.declared.table.Column.{Column}
 use Rattle.dv_schema.specs.declared.opening.Action.TheVariants.{Read}
+use Rattle.dv_query.specs.declared.query.Query.{Query}
+use Rattle.dv_query_check.specs.Faults.{kind_word}
+use Rattle.dv_query_check.specs.Queries.{first_fault}
 use Rattle.dv_roles.specs.State.{State}
 use Rattle.dv_store.specs.Cursors.{Told, told_of}
 use Rattle.dv_store.specs.World.{World, row_at}
@@ -17,7 +19,6 @@ use Rattle.dv_access.specs.declared.denied.Why.TheVariants.{NoPrivilege}
 use Rattle.dv_request.specs.declared.reply.Reply.{Reply}
 use Rattle.dv_request.specs.declared.reply.Reply.TheVariants.{Page}
 use Rattle.dv_message.specs.Checked.{Judged}
-use Rattle.dv_message.specs.Columns.{column_of}
 use Rattle.dv_message.specs.Refusing.{denied_as}
 use Rattle.dv_message.specs.Showing.{asked_from, IsShownRow}
 use Rattle.dv_pipeline.specs.declared.query.Asked.{Asked}
@@ -36,33 +37,21 @@ sight_of d told user = record {
   HasRow = λ table id row. (view_of d told user).ReadsRow table id × (row_at told.rows table id ≡ Some row);
 }
 
--- what a query is about: a table and its number, the columns that are asked for, and what the caller can see
+-- what a query is about: the definition and what is asked of it, the table with its number, and what the caller can see
 pub record Querying : Type 1 where
   pub sight : Sight
+  pub definition : Definition
+  pub query : Query
   pub number : ℕ
   pub table : Table
-  pub names : Option (List (List ℕ))
 
 -- a query in a world
 abbrev pub querying_in : World → Asked → Querying
-querying_in w q = record { sight = sight_of q.directory.now (told_of w) q.user; number = q.number; table = q.table.now; names = q.names.now }
+querying_in w q = record { sight = sight_of q.directory.now (told_of w) q.user; definition = q.definition.now; query = q.query.now; number = q.number; table = q.table.now }
 
--- the part of a query that is the name at a place of its columns
-unfoldable pub columns_part : ℕ → List ℕ
-columns_part place = chars (codes "columns[" ++ decimal place ++ codes "]")
-
--- the first name that is no column's, from a place on
-unfoldable pub names_fault : ℕ → List Column → List (List ℕ) → Option Refusal
-names_fault place columns [] = None
-names_fault place columns (name ∷ names) = of (column_of columns name) (names_fault (place + 1) columns names)
-  where
-    of : Option Column → Option Refusal → Option Refusal
-    of None rest = Some (answer.BadQuery (chars (codes "column")) (columns_part place))
-    of (Some column) rest = rest
-
-unfoldable pub asked_fault : List Column → Option (List (List ℕ)) → Option Refusal
-asked_fault columns None = None
-asked_fault columns (Some names) = names_fault 0 columns names
+-- the first fault of a query, as it is refused
+unfoldable pub query_fault : Definition → Query → Option Refusal
+query_fault d q = option_map (λ fault. answer.BadQuery (chars (kind_word fault.kind)) (chars fault.place)) (first_fault d q)
 
 -- the most rows that an answer has, as long as it isn't cut into pages
 abbrev pub most_shown : ℕ
@@ -71,7 +60,7 @@ most_shown = 5000
 -- the rows of these ids, as they are shown
 unfoldable pub ShowsRows : Querying → List Id → List (List (List ℕ × Raw)) → Type 0
 ShowsRows q [] [] = Rattle.std.specs.Prelude.⊤
-ShowsRows q (id ∷ ids) (shown ∷ rows) = ((row : Row) × q.sight.HasRow q.number id row × IsShownRow q.table.columns (asked_from 0 q.names q.table.columns) id row shown) × ShowsRows q ids rows
+ShowsRows q (id ∷ ids) (shown ∷ rows) = ((row : Row) × q.sight.HasRow q.number id row × IsShownRow q.table.columns (asked_from 0 q.query.columns q.table.columns) id row shown) × ShowsRows q ids rows
 ShowsRows q [] (shown ∷ rows) = ⊥
 ShowsRows q (id ∷ ids) [] = ⊥
 
@@ -91,12 +80,12 @@ IsShort q (Some refusal) = ((ids : List Id) × AreReadable q ids × (most_shown 
 
 -- what each check says
 unfoldable pub QuerySays : Querying → QueryCheck → Option Refusal → Type 0
-QuerySays q check.Columns refusal = refusal ≡ asked_fault q.table.columns q.names
+QuerySays q check.WellFormed refusal = refusal ≡ query_fault q.definition q.query
 QuerySays q check.Privilege refusal = MayRead q refusal
 
 -- the checks, in their order
 abbrev pub query_checks : List QueryCheck
-query_checks = check.Columns ∷ check.Privilege ∷ []
+query_checks = check.WellFormed ∷ check.Privilege ∷ []
 
 -- a page with each row that the caller may read, and nothing else
 abbrev pub Shows : Querying → Reply → Type 0

@@ -11,6 +11,7 @@ use Rattle.dv_access.specs.View.{AreExactly}
 use Rattle.dv_roles.specs.State.{State}
 use Rattle.dv_store.specs.World.{World}
 use Rattle.dv_store.specs.Cursors.{told_of}
+use Rattle.dv_query.specs.declared.query.Query.{Query}
 use Rattle.dv_request.specs.declared.reply.Reply.{Reply}
 use Rattle.dv_request.specs.declared.reply.Reply.TheVariants.{Caller}
 use Rattle.dv_request.specs.declared.request.Request.{Request}
@@ -44,10 +45,10 @@ RunsCreation (Some found) d old user moment name chosen values new outcome =
     RunsCreating c new outcome
 
 -- A query. Of the world it depends on what the caller can see alone, and it changes nothing.
-unfoldable pub RunsQuery : Option (ℕ × Table) → Sight → List ℕ → Option (List (List ℕ)) → Result Reply Refusal → Type 0
-RunsQuery None sight name names outcome = outcome ≡ Err (refusal.UnknownTable name)
-RunsQuery (Some found) sight name names outcome =
-    let q : Querying = record { sight = sight; number = found.0; table = found.1; names = names } in
+unfoldable pub RunsQuery : Option (ℕ × Table) → Sight → Definition → Query → Result Reply Refusal → Type 0
+RunsQuery None sight definition query outcome = outcome ≡ Err (refusal.UnknownTable query.table)
+RunsQuery (Some found) sight definition query outcome =
+    let q : Querying = record { sight = sight; definition = definition; query = query; number = found.0; table = found.1 } in
     RunsQuerying q outcome
 
 -- the row that a message names by its table's name and its id; a table that isn't there is told first
@@ -66,7 +67,7 @@ Plays s old (request.Modify name id principal rights) new outcome = OnNamed s ol
 Plays s old (request.Revoke name id principal) new outcome = OnNamed s old name id new outcome (λ t. RunsRevoke (record { target = t; principal = principal }) new outcome)
 Plays s old (request.Access name id user) new outcome = OnNamed s old name id new outcome (λ t. RunsAccess (record { target = t; user = user }) outcome × (new ≡ old))
 Plays s old (request.Shares name id) new outcome = OnNamed s old name id new outcome (λ t. RunsShares t outcome × (new ≡ old))
-Plays s old (request.Query query) new outcome = RunsQuery (table_at s.definition query.table) (sight_of s.directory (told_of old) s.user) query.table query.columns outcome × (new ≡ old)
+Plays s old (request.Query query) new outcome = RunsQuery (table_at s.definition query.table) (sight_of s.directory (told_of old) s.user) s.definition query outcome × (new ≡ old)
 Plays s old request.WhoAmI new outcome = ((reply : Reply) × (outcome ≡ Ok reply) × TellsCaller s.directory s.user reply) × (new ≡ old)
 Plays s old other new outcome = IsRefused refusal.NotBuilt old new outcome
 

@@ -17,7 +17,7 @@ abbrev pub creation_in : Scene → World → List ℕ → Option Id → List (Li
 creation_in s old name chosen values new outcome = RunsCreation (table_at s.definition.now name) s.directory.now old s.user s.moment name chosen values new outcome
 
 abbrev pub query_in : Scene → World → Query → Result Reply Refusal → Type 0
-query_in s old query outcome = RunsQuery (table_at s.definition.now query.table) (sight_of s.directory.now (told_of old) s.user) query.table query.columns outcome
+query_in s old query outcome = RunsQuery (table_at s.definition.now query.table) (sight_of s.directory.now (told_of old) s.user) s.definition.now query outcome
 
 abbrev pub play_in : Scene → World → Request → World → Result Reply Refusal → Type 0
 play_in s old request new outcome = Plays (setting_of s) old request new outcome

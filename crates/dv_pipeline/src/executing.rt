@@ -75,7 +75,8 @@ fn run_query(alloc: Global, store: &Store, scene: &Scene<'_>, query: &Query) -> 
         number,
         table,
         user: scene.user,
-        names: &query.columns,
+        definition: scene.definition,
+        query,
     };
     answer_query(alloc, &asked, store)
 }

@@ -3,15 +3,17 @@ ghost use Rattle.std.specs.Prelude.{◌≡◌, ◌↔◌, IfOk, IsTrue};
 ghost use Rattle.dv_store.specs.World.{World};
 ghost use Rattle.dv_access.specs.Reaches.{Holds};
 ghost use Rattle.dv_message.specs.Checked.{Answers, Walked};
-ghost use Rattle.dv_pipeline.specs.Querying.{querying_in, columns_part, names_fault, asked_fault, AreReadable, MayRead, QuerySays};
+ghost use Rattle.dv_pipeline.specs.Querying.{querying_in, query_fault, AreReadable, MayRead, QuerySays};
 
 use dv_access::{Denied, Why, permitted};
-use dv_message::{Stop, column_of, denied};
+use dv_message::{Stop, denied};
+use dv_query::Query;
+use dv_query_check::{QueryFault, check_query};
 use dv_refusal::Refusal;
 use dv_roles::Directory;
-use dv_schema::{Action, Column, Table};
+use dv_schema::{Action, Definition, Table};
 use dv_store::{Store, Walk};
-use dv_value::{Id, Names, Text};
+use dv_value::{Id, Text};
 use std::alloc::{AllocError, Global};
 
 /// A query for the columns of all rows of a table that a user may read.
@@ -21,55 +23,21 @@ pub(crate) struct Asked<'a> {
     pub number: u16,
     pub table: &'a Table,
     pub user: Id,
-    pub names: &'a Option<Names>,
+    pub definition: &'a Definition,
+    pub query: &'a Query,
 }
 
 /// What is checked of a query before it is answered.
 #[derive(Clone, Copy, Debug, PartialEq, Eq)]
 pub(crate) enum QueryCheck {
-    /// Each name is that of a column.
-    Columns,
+    /// It can be asked of the tables of the definition.
+    WellFormed,
     /// The user holds something of reading on the table.
     Privilege,
 }
 
 /// The checks, in the order in which they are made.
-pub(crate) const QUERY_CHECKS: [QueryCheck; 2] = [QueryCheck::Columns, QueryCheck::Privilege];
-
-/// The part of a query that is the name at a place of its columns.
-#[tactic(auto, unfolding(crate::specs::Querying::columns_part))]
-fn columns_part(alloc: Global, place: usize) -> Result<Text, AllocError>
-    ensures { IfOk result (λ part. part ≡ columns_part place) }
-{
-    Ok(Text::from_string(format!(in alloc; "columns[{place}]")?))
-}
-
-/// Checks that each name is that of a column.
-#[tactic(auto, unfolding(crate::specs::Querying::names_fault))]
-fn check_names(alloc: Global, columns: &[Column], names: &[Text]) -> Result<(), Stop>
-    ensures { Answers (λ said. said ≡ names_fault 0 columns.now names.now) result }
-{
-    for (place, name) in names.iter().enumerate() {
-        if column_of(columns, name).is_none() {
-            return Err(Stop::Refused(Refusal::BadQuery {
-                kind: Text::from_str(alloc, "column")?,
-                part: columns_part(alloc, place)?,
-            }));
-        }
-    }
-    Ok(())
-}
-
-/// Checks the names, if any are given.
-#[tactic(auto, unfolding(crate::specs::Querying::asked_fault))]
-fn check_asked(alloc: Global, columns: &[Column], names: &Option<Names>) -> Result<(), Stop>
-    ensures { Answers (λ said. said ≡ asked_fault columns.now names.now) result }
-{
-    match names {
-        None => Ok(()),
-        Some(names) => check_names(alloc, columns, names.as_slice()),
-    }
-}
+pub(crate) const QUERY_CHECKS: [QueryCheck; 2] = [QueryCheck::WellFormed, QueryCheck::Privilege];
 
 /// Whether a user holds something of reading on a table.
 fn may_read(directory: &Directory, user: Id, table: u16) -> bool
@@ -85,6 +53,21 @@ impl Asked<'_> {
     {
         let mut walk = Walk::new(store);
         permitted(alloc, self.directory, &mut walk, self.user, self.number)
+    }
+
+    /// Checks that the query can be asked of the tables of the definition.
+    fn check_form(&self, alloc: Global) -> Result<(), Stop>
+        ensures { Answers (λ said. said ≡ query_fault self.now.definition.now self.now.query.now)
+            result }
+    {
+        match check_query(alloc, self.definition, self.query) {
+            Ok(()) => Ok(()),
+            Err(QueryFault::BadQuery { part, kind }) => Err(Stop::Refused(Refusal::BadQuery {
+                kind: Text::from_str(alloc, kind.word())?,
+                part,
+            })),
+            Err(QueryFault::OutOfMemory) => Err(Stop::OutOfMemory),
+        }
     }
 
     /// Checks that something of reading is held.
@@ -108,7 +91,7 @@ impl Asked<'_> {
         ensures { (world : World) → Answers (QuerySays (querying_in world self.now) check) result }
     {
         match check {
-            QueryCheck::Columns => check_asked(alloc, self.table.columns.as_slice(), self.names),
+            QueryCheck::WellFormed => self.check_form(alloc),
             QueryCheck::Privilege => self.check_privilege(alloc),
         }
     }

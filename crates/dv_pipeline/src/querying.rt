@@ -26,7 +26,7 @@ fn show_rows(
     ensures { IfOk result (ShowsRows (querying_in store.now.present asked.now) ids.now) }
 {
     let columns = asked.table.columns.as_slice();
-    let numbers = asked_numbers(alloc, asked.names, columns)?;
+    let numbers = asked_numbers(alloc, &asked.query.columns, columns)?;
     let mut rows = Items::new(alloc);
     for id in ids {
         if let Some(row) = store.row(asked.number, *id) {

@@ -34,9 +34,9 @@ pub fn check_query(alloc: Global, def: &Definition, query: &Query) -> Result<(),
     }
 }
 
-/// In an accepted query every table and column that is named is there, every link that is named is one whose rows are
-/// told, and every value is one that its operator takes on its column. The call does nothing: what it ensures is the
-/// law.
+/// In an accepted query every table, column and alias that is named is there, every link that is
+/// named is one whose rows are told, each link's alias is its own, and every value is one that its
+/// operator takes on its column. The call does nothing: what it ensures is the law.
 pub fn an_accepted_query_is_well_typed()
     ensures { (d : Definition) (q : Query) → first_fault d q ≡ None → IsTyped d q }
 {}

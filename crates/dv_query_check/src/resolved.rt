@@ -4,10 +4,10 @@ use dv_query::{Join, Operator};
 use dv_value::Value;
 use sqlite_items::Items;
 
-/// A query that can be asked, without a name that would have to be looked up: a table has its number in the
-/// definition, a column its number in its table. The query's own table is source 0, and the links are the sources 1
-/// and on. It takes no more memory than the query does: a number stands for each name, and of the texts only those of
-/// conditions are kept.
+/// A query that can be asked, without a name that would have to be looked up: a table has its number
+/// in the definition, a column its number in its table. The query's own table is source 0, and the
+/// links are the sources 1 and on. It takes no more memory than the query does: a number stands for
+/// each name, and of the texts only those of conditions are kept.
 #[derive(Debug, Drop)]
 pub struct ResolvedQuery {
     pub table: u16,

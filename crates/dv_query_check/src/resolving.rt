@@ -20,8 +20,8 @@ use dv_value::{Names, items_with_capacity};
 use sqlite_items::Items;
 use std::alloc::{AllocError, Global};
 
-/// A query with numbers in place of names; None where a name isn't there, or a value isn't one of its column. Each
-/// query that `check_query` accepts has this form.
+/// A query with numbers in place of names; None where a name isn't there, or a value isn't one of
+/// its column. Each query that `check_query` accepts has this form.
 pub fn resolve(
     alloc: Global,
     def: &Definition,
@@ -59,9 +59,11 @@ pub fn resolve(
     }))
 }
 
-/// An accepted query has a form with numbers in place of names. The call does nothing: what it ensures is the law.
+/// An accepted query has a form with numbers in place of names. The call does nothing: what it
+/// ensures is the law.
 pub fn an_accepted_query_can_be_resolved()
-    ensures { (d : Definition) (q : Query) → first_fault d q ≡ None → is_some (resolved d q) ≡ true }
+    ensures { (d : Definition) (q : Query) → first_fault d q ≡ None
+        → is_some (resolved d q) ≡ true }
 {}
 
 // The numbers of the columns that are asked for, where some are.

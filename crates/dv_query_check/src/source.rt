@@ -30,7 +30,8 @@ impl<'a> Source<'a> {
     }
 }
 
-/// The source whose column is named: the link whose rows are told under an alias, or without one another source.
+/// The source whose column is named: the link whose rows are told under an alias, or without one
+/// another source.
 pub(crate) fn source_meant<'a>(
     own: Source<'a>,
     links: &[PlacedLink<'a>],

@@ -12,5 +12,5 @@ returns-in-Err c = λ world.
     let i = c.loop-check.check-index in
     let lt : i < length checks = omega (arith, c.loop-check-test.true) in
     let Says = QuerySays (querying_in world c.args.self.now) in
-    c.loop-check.invariant world (Err c.in-Err.stop) (subst (λ rest. Walked {T = Unit {0}} Says rest (Err c.in-Err.stop)) (sym (drop_at checks i check.Columns lt))
-    (ended (Unit {0}) Says (get_or checks i check.Columns) (drop (i + 1) checks) c.in-Err.stop (c.in-Err.ensures world)))
+    c.loop-check.invariant world (Err c.in-Err.stop) (subst (λ rest. Walked {T = Unit {0}} Says rest (Err c.in-Err.stop)) (sym (drop_at checks i check.WellFormed lt))
+    (ended (Unit {0}) Says (get_or checks i check.WellFormed) (drop (i + 1) checks) c.in-Err.stop (c.in-Err.ensures world)))
