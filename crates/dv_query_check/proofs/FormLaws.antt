@@ -171,15 +171,33 @@ turns_named d (e ∷ ls) outer hidden above place i number =
     (e.1 outer hidden above number (item place i))
     (turns_named d ls outer hidden above place (i + 1) (number + length here))
 
-links_rolled : (d : Definition) (x : Link-F Link) (outer : Option Table) (hidden : Bool) (above number : ℕ) (place : List ℕ) → links_under d outer hidden above (roll-Link x) number place
-    ≡ (record { place = place; number = number; above = above; outer = outer; table = table_named d x.table; named = x.table; join = x.join; hidden = hidden || is_exists x.join; from = x.from; to = x.to; alias = x.alias; columns = x.columns; filter = x.filter })
+-- a link in its place
+abbrev pub rolled_link : Definition → Link-F Link → Option Table → Bool → ℕ → ℕ → List ℕ → LinkAt
+rolled_link d x outer hidden above number place = record {
+  place = place;
+  number = number;
+  above = above;
+  outer = outer;
+  table = table_named d x.table;
+  named = x.table;
+  join = x.join;
+  hidden = hidden || is_exists x.join;
+  from = x.from;
+  to = x.to;
+  alias = x.alias;
+  columns = x.columns;
+  filter = x.filter;
+}
+
+pub links_rolled : (d : Definition) (x : Link-F Link) (outer : Option Table) (hidden : Bool) (above number : ℕ) (place : List ℕ) → links_under d outer hidden above (roll-Link x) number place
+    ≡ rolled_link d x outer hidden above number place
     ∷ links_in_turn (member place (codes "links")) 0 (number + 1) (map (links_under d (table_named d x.table) (hidden || is_exists x.join) number) x.links)
 unfolding links_at link_step
 links_rolled d x outer hidden above number place =
     let table = table_named d x.table in
     let under = hidden || is_exists x.join in
     ap (λ (u : Under). u outer hidden above number place) (fold-roll-Link Under (link_step d) x)
-    ∙ ap (λ us. (record { place = place; number = number; above = above; outer = outer; table = table; named = x.table; join = x.join; hidden = under; from = x.from; to = x.to; alias = x.alias; columns = x.columns; filter = x.filter }) ∷ links_in_turn (member place (codes "links")) 0 (number + 1) us) (map-map (λ (u : Under). u table under number) (links_at d) x.links)
+    ∙ ap (λ us. rolled_link d x outer hidden above number place ∷ links_in_turn (member place (codes "links")) 0 (number + 1) us) (map-map (λ (u : Under). u table under number) (links_at d) x.links)
 
 link_named : (d : Definition) (link : Link) → AreOfNames d link
 link_named d = ind-Link (AreOfNames d) (λ x y is outer hidden above number place.

@@ -11,3 +11,4 @@ pub mod ResolvedLaws
 pub mod EveryLaws
 pub mod ComparandLaws
 pub mod FormLaws
+pub mod UnderLaws

@@ -1,5 +1,5 @@
 -- The links of a query in preorder: each link, then those under it, each with its place, its table and the table that it stands under. The query's own table and then its links in that order are the sources of the query, which are numbered from 0.
-use Rattle.std.specs.Prelude.{ℕ, ◌+◌, Bool, true, false, ◌||◌, List, [], ◌∷◌, ◌++◌, length, map, codes, Option}
+use Rattle.std.specs.Prelude.{◌≡◌, ◌≤◌, ℕ, zero, suc, ◌+◌, Bool, true, false, ◌||◌, List, [], ◌∷◌, ◌++◌, length, map, slice_get, codes, Option, Some}
 use Rattle.dv_schema.specs.declared.definition.Definition.{Definition}
 use Rattle.dv_schema.specs.declared.table.Table.{Table}
 use Rattle.dv_schema.specs.Names.{Name}
@@ -79,3 +79,14 @@ links_under d outer hidden above link = links_at d link outer hidden above
 -- the links of a query in preorder
 unfoldable pub links_of : Definition → Query → List LinkAt
 links_of d q = links_in_turn (codes "links") 0 1 (map (links_under d (table_named d q.table) false 0) q.links)
+
+-- the source of a number has a table, if that is there: the query's own, or that of the link before that place
+abbrev pub HasTable : Option Table → List LinkAt → ℕ → Option Table → Type 0
+HasTable base links zero table = table ≡ base
+HasTable base links (suc k) table = (l : LinkAt) × (slice_get links k ≡ Some l) × (l.table ≡ table)
+
+-- a link's number is that of its place among the sources, and it stands under an earlier source, whose table it says
+pub record IsUnder (base : Option Table) (links : List LinkAt) (k : ℕ) (l : LinkAt) : Type 0 where
+  pub number : l.number ≡ k + 1
+  pub earlier : l.above ≤ k
+  pub outer : HasTable base links l.above l.outer

@@ -27,5 +27,6 @@ mod source;
 
 pub use check::{an_accepted_query_is_well_typed, check_query};
 pub use fault::{QueryFault, QueryKind};
+pub use placed::each_link_stands_under_an_earlier_source;
 pub use resolved::{ResolvedCondition, ResolvedFilter, ResolvedLink, ResolvedOrder, ResolvedQuery};
 pub use resolving::{an_accepted_query_can_be_resolved, resolve};

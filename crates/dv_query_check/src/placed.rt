@@ -1,9 +1,11 @@
 //! The links of a query in preorder, each with its place, its table and the table that it stands under.
 
-ghost use Rattle.std.specs.Prelude.{◌≡◌, ◌+◌, ◌++◌, ◌∷◌, [], ◌||◌, length, map, option_map, codes, IfOk, OnOk};
+ghost use Rattle.std.specs.Prelude.{◌≡◌, ◌+◌, ◌++◌, ◌∷◌, [], ◌||◌, length, map, option_map, codes, IfOk, OnOk, ℕ, Some, slice_get};
+ghost use Rattle.dv_schema.specs.declared.definition.Definition.{Definition};
 ghost use Rattle.dv_query.specs.declared.link.Link.{Link};
+ghost use Rattle.dv_query.specs.declared.query.Query.{Query};
 ghost use Rattle.dv_query_check.specs.Columns.{table_named};
-ghost use Rattle.dv_query_check.specs.Links.{is_exists, links_at, links_under, links_of, links_in_turn};
+ghost use Rattle.dv_query_check.specs.Links.{LinkAt, IsUnder, is_exists, links_at, links_under, links_of, links_in_turn};
 ghost use Rattle.dv_query_check.specs.Placed.{link_at};
 ghost use Rattle.dv_query_check.specs.Places.{member};
 
@@ -64,6 +66,14 @@ pub(crate) fn placed_links<'a>(
     )?;
     Ok(placed)
 }
+
+/// Each link of a query stands under the query's own table or under a link before it in preorder.
+/// The call does nothing: what it ensures is the law.
+pub fn each_link_stands_under_an_earlier_source()
+    ensures { (d : Definition) (q : Query) (k : ℕ) (l : LinkAt)
+        → slice_get (links_of d q) k ≡ Some l
+        → IsUnder (table_named d q.table) (links_of d q) k l }
+{}
 
 // Adds the links of a list, each followed by those under it.
 #[cycle(links)]
