@@ -1,9 +1,12 @@
-//! Runs the cases of data/: queries on the tables of one definition, each accepted or with its first fault.
+//! Runs the cases of data/: queries on the tables of one definition, each accepted or with its first fault, and
+//! queries with numbers in place of names.
 #![tactic(auto)]
 
+mod forms;
 mod queries;
 
 use case_notation::{Fault, Tally, run};
+use forms::Forms;
 use queries::Queries;
 
 // The files of cases. Each begins with what it shows.
@@ -24,5 +27,7 @@ fn main(rt: HostRuntime) -> Result<(), Fault> {
     for file in FILES {
         run(&rt, file, &queries, &mut tally)?;
     }
+    let forms = Forms { queries: &queries };
+    run(&rt, "forms", &forms, &mut tally)?;
     tally.tell(&rt)
 }

@@ -11,7 +11,7 @@ use std::fs;
 /// The cases of queries on the tables of a definition.
 #[derive(Drop)]
 pub struct Queries {
-    definition: Definition,
+    pub definition: Definition,
 }
 
 impl Queries {
@@ -25,17 +25,26 @@ impl Queries {
             Err(DefFault::OutOfMemory) => Err(Fault::OutOfMemory),
         }
     }
+
+    /// The request of a case.
+    pub fn request(&self, alloc: Global, case: &Case<'_>) -> Result<Request, Fault> {
+        let line = line_of(alloc, case.only_input()?)?;
+        let bytes = bytes_of(alloc, line.as_str())?;
+        match read_request(alloc, bytes.as_slice()) {
+            Ok((_, request)) => Ok(request),
+            Err(WireFault::Malformed(_)) => Err(Fault::Wrong("the line is malformed")),
+            Err(WireFault::OutOfMemory) => Err(Fault::OutOfMemory),
+        }
+    }
 }
 
 impl Answers for Queries {
     fn answer(&self, rt: &HostRuntime, case: &Case<'_>) -> Result<String, Fault> {
-        let line = line_of(rt.alloc(), case.only_input()?)?;
-        let bytes = bytes_of(rt.alloc(), line.as_str())?;
-        match read_request(rt.alloc(), bytes.as_slice()) {
-            Ok((_, request)) => answer(rt.alloc(), &self.definition, &request),
-            Err(WireFault::Malformed(_)) => Err(Fault::Wrong("the line is malformed")),
-            Err(WireFault::OutOfMemory) => Err(Fault::OutOfMemory),
-        }
+        answer(
+            rt.alloc(),
+            &self.definition,
+            &self.request(rt.alloc(), case)?,
+        )
     }
 }
 
