@@ -69,6 +69,7 @@ resolved_conditions own links conditions = each_of (resolved_condition own links
 unfoldable pub filter_made : Bool → Option (List ResolvedCondition) → Option (List ResolvedFilter) → Option ResolvedFilter
 filter_made any conditions filters = option_and_then (λ cs. option_map (λ fs. roll-ResolvedFilter (record { any = any; conditions = cs; filters = fs })) filters) conditions
 
+-- the same, where what each filter in it stands for is known
 unfoldable pub resolve_step : SourceAt → List LinkAt → Filter-F (Option ResolvedFilter) → Option ResolvedFilter
 resolve_step own links f = filter_made f.any (resolved_conditions own links f.conditions) (each_of (λ inner. inner) f.filters)
 
@@ -80,7 +81,7 @@ resolved_filter own links = fold-Filter (Option ResolvedFilter) (resolve_step ow
 unfoldable pub resolved_filters : SourceAt → List LinkAt → List Filter → Option (List ResolvedFilter)
 resolved_filters own links filters = each_of (resolved_filter own links) filters
 
--- a link of the source that it stands under, how it is joined, its table's number, its columns and its filter
+-- a link: the source that it stands under, how it is joined, its table, the columns that it joins by, its columns and its filter
 unfoldable pub link_made : ℕ → Join → Option ℕ → Option ℕ → Option ℕ → Option (List ℕ) → Option (Option ResolvedFilter) → Option ResolvedLink
 link_made outer join table from to columns filter =
     option_and_then (λ t. option_and_then (λ a. option_and_then (λ b. option_and_then (λ cs. option_map (λ f.
