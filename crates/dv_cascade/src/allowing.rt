@@ -39,7 +39,7 @@ fn is_active(store: &Store, key: RowKey) -> bool
 }
 
 /// The owner of a row, if it has one.
-fn owner_of(store: &Store, key: RowKey) -> Option<Id>
+pub fn owner_of(store: &Store, key: RowKey) -> Option<Id>
     ensures { result ≡ owner_of store.now.present key }
 {
     match store.row(key.table, key.id) {

@@ -1,5 +1,5 @@
 //! Whether a new parent would put a row above itself.
-ghost use Rattle.std.specs.Prelude.{◌≡◌, ◌↔◌, IsTrue, find};
+ghost use Rattle.std.specs.Prelude.{◌≡◌, ◌↔◌, IsTrue, Some, find};
 ghost use Rattle.std.specs.FinMap as map;
 ghost use Rattle.std.specs.Option.{option_copied};
 ghost use Rattle.dv_schema.specs.Definitions.{relationships_of};
@@ -76,10 +76,13 @@ fn named_by(store: &Store, key: RowKey, relationship: Option<&Relationship>) -> 
     })
 }
 
-/// The row that a row names by the parental relationship of its table.
+/// The row that a row names by the parental relationship of its table: where a table is the child of at most one, the
+/// row that it is under.
 #[tactic(auto, unfolding(crate::specs::Circles::parent_of))]
-fn parent_of(store: &Store, definition: &Definition, key: RowKey) -> Option<RowKey>
-    ensures { result ≡ parent_of store.now.present definition.now key }
+pub fn parent_of(store: &Store, definition: &Definition, key: RowKey) -> Option<RowKey>
+    ensures value { result ≡ parent_of store.now.present definition.now key }
+    ensures under { HasOneParent definition.now → (parent : RowKey)
+        → (result ≡ Some parent) ↔ IsUnderParent store.now.present definition.now key parent }
 {
     named_by(store, key, parental_of(definition, key.table))
 }

@@ -23,9 +23,10 @@ mod laws;
 mod lookup;
 mod lookups;
 
+pub use allowing::owner_of;
 pub use blocking::first_restrict;
 pub use cascading::Cascading;
-pub use circling::would_circle;
+pub use circling::{parent_of, would_circle};
 pub use clearing::links_to_clear;
 pub use closing::closure;
 pub use laws::a_closure_is_the_least_closed_set;
