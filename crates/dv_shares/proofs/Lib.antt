@@ -6,3 +6,11 @@ pub mod Results
 pub mod Limits
 pub mod Marks
 pub mod Rows
+pub mod Shares
+pub mod Principals
+pub mod Clearing
+pub mod Adding
+pub mod Climbing
+pub mod Unions
+pub mod Reached
+pub mod Reparented

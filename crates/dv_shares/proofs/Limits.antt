@@ -18,7 +18,7 @@ use Rattle.dv_shares.specs.declared.change.Change.{Change}
 use Rattle.dv_shares.specs.declared.change.Change.TheVariants.{AddDirect, AddInherited, Clear, ClearInherited}
 use Rattle.dv_shares.specs.Rights.{adds, changed, are_same, rights_of}
 use Rattle.dv_shares.specs.Grants.{can_have_grants, on_row}
-use Rattle.dv_shares.specs.Outcome.{MayRefuse}
+use Rattle.dv_shares.specs.Outcome.{MayRefuse, MayRefuseTo}
 use Rattle.dv_shares.specs.Steps.{grant_changed, one_changed, other_changed, others_changed}
 use Rattle.dv_shares.proofs.OneGrant.{grant_order}
 use Rattle.dv_shares.proofs.Repeated.{both_true}
@@ -67,7 +67,7 @@ module _ (c : Change) (adding : adds c ≡ true) where
       cases true is = omega arith
       cases false is = rw (some_added c before adding is, fin.len-insert grant_order w.grants key (after.direct, after.inherited)) (put (fin.contains_key w.grants key))
 
-  grows-one : (p : Id) (row : RowKey) (w : World) → grant_total w ≤ grant_total (one_changed p c row w)
+  pub grows-one : (p : Id) (row : RowKey) (w : World) → grant_total w ≤ grant_total (one_changed p c row w)
   grows-one p row w = cases (can_have_grants w row)
     where
       cases : (h : Bool) → grant_total w ≤ grant_total (cond h (grant_changed c (on_row p row) w) w)
@@ -118,3 +118,8 @@ refused-others target p c set i d w fault adding lt refused =
     let next : World = other_changed target p c (get_or set i d) w in
     let le : grant_total next ≤ grant_total (others_changed target p c (drop (i + 1) set) next) = grows-others c adding target p (drop (i + 1) set) next in
     subst (λ v. MayRefuse v fault) (sym (others-step target p c set i d w lt)) (refused_later next (others_changed target p c (drop (i + 1) set) next) fault le refused)
+
+-- a refusal to make one world of which something is so
+pub refused_to : (IsMade : World → Type 0) (w : World) (fault : StoreFault) → IsMade w → MayRefuse w fault → MayRefuseTo IsMade fault
+refused_to IsMade w fault made (inl memory) = inl memory
+refused_to IsMade w fault made (inr limit) = inr (limit.0, record { world = w; made = made; past = limit.1 })

@@ -11,7 +11,7 @@ use Rattle.dv_shares.specs.Outcome.{Makes}
 get_or-more : (xs : List World) (x y : World) (i : ℕ) → i ≤ length xs → get_or (xs ++ x ∷ []) i y ≡ get_or xs i x
 get_or-more xs x y i le = grind (arith, common_steps, get_or_past xs i x, get_or-append_seam xs x [] y, get_or-append xs (x ∷ []) y i)
 
-extends-same : (h : History World) → Extends h h
+pub extends-same : (h : History World) → Extends h h
 extends-same h = record { longer = omega arith; back = λ mark le. refl }
 
 extends-state : (h : History World) (w : World) → Extends h (with_state h w)

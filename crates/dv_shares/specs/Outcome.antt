@@ -18,3 +18,13 @@ StaysWithin old new = grant_total old ≤ most_grants → grant_total new ≤ mo
 -- a refusal to make a world: memory ran out, or there is the limit of grants, which that world passes
 abbrev pub MayRefuse : World → StoreFault → Type 0
 MayRefuse w fault = (fault ≡ OutOfMemory) ⊎ ((fault ≡ Limit Grant) × (most_grants < grant_total w))
+
+-- there is a world of which something is so, and it passes the limit of grants
+pub record Passes (IsMade : World → Type 0) : Type 0 where
+  pub world : World
+  pub made : IsMade world
+  pub past : most_grants < grant_total world
+
+-- a refusal to make a world of which something is so: memory ran out, or there is the limit of grants, which it passes
+abbrev pub MayRefuseTo : (World → Type 0) → StoreFault → Type 0
+MayRefuseTo IsMade fault = (fault ≡ OutOfMemory) ⊎ ((fault ≡ Limit Grant) × Passes IsMade)
