@@ -13,6 +13,14 @@ pub fn ask(alloc: Global, scene: &Scene, words: &[&str], out: &mut String) -> Re
         ["blocks", row] => ask_blocking(alloc, scene, row, out),
         ["empties", rows @ ..] => ask_emptied(alloc, scene, rows, out),
         ["circles", row, parent] => ask_circle(scene, row, parent, out),
+        ["grants", row] => {
+            let row = key_of(scene.definition(), row)?;
+            scene.show_grants(row, out)
+        }
+        ["granted", row] => {
+            let row = key_of(scene.definition(), row)?;
+            Ok(write!(out, " {}", scene.count_grants(row))?)
+        }
         ["count", word, row] => {
             let rows = reached(alloc, scene, word, row)?;
             Ok(write!(out, " {}", rows.len())?)

@@ -1,4 +1,4 @@
-//! Runs the cases of cascades in data/.
+//! Runs the cases of data/: cascades, and what rows inherit by another parent.
 #![tactic(auto)]
 
 mod asking;
@@ -11,11 +11,13 @@ use case_notation::{Fault, Tally, run};
 use stories::Stories;
 
 // The files of cases. Each begins with what it shows.
-const FILES: [&str; 6] = [
+const FILES: [&str; 8] = [
     "worked",
     "kinds",
     "removal",
     "circles",
+    "reparent",
+    "grants",
     "large",
     "generated",
 ];

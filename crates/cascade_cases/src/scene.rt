@@ -2,13 +2,17 @@
 ghost use Rattle.std.specs.Prelude.{◌≡◌, ◌&&◌, IfOk};
 ghost use Rattle.std.specs.List.{list_all};
 ghost use Rattle.dv_meta.specs.Sound.{IsSound};
+ghost use Rattle.dv_store.specs.Shapes.{is_owned};
 ghost use Rattle.cascade_cases.specs.Scenes.{is_below};
 
 use case_notation::{Fault, bytes_of};
-use dv_cascade::{Cascading, LookupKey, closure, first_restrict, links_to_clear, would_circle};
+use dv_cascade::{
+    Cascading, LookupKey, closure, first_restrict, links_to_clear, parent_of, would_circle,
+};
 use dv_meta::{DefFault, Definition, read_definition};
+use dv_shares::{grant, reparent};
 use dv_store::{Row, RowKey, Store, StoreFault};
-use dv_value::{Id, Value};
+use dv_value::Id;
 use std::alloc::Global;
 use std::fs;
 use std::marker::Model;
@@ -18,7 +22,7 @@ use std::marker::Model;
 pub struct Scene {
     definition: Definition,
     store: Store,
-    // Whether each row names smaller ids than its own only. Then no row is above itself.
+    // Whether each row's parent has a smaller id than the row. Then no row is above itself.
     descends: bool,
 }
 
@@ -46,29 +50,38 @@ fn definition_in(rt: &HostRuntime, name: &str) -> Result<Definition, Fault>
     }
 }
 
-// Whether a value is no id, or a smaller one.
+// Whether a parent, if there is one, has a smaller id than its child.
 #[tactic(auto, unfolding(crate::specs::Scenes::is_below))]
-fn is_below(id: Id, value: &Value) -> bool
-    ensures { result ≡ is_below id value.now }
+fn is_below(id: Id, parent: Option<RowKey>) -> bool
+    ensures { result ≡ is_below id parent }
 {
-    match value {
-        Value::Ref(other) => other.0 < id.0,
-        _ => true,
+    match parent {
+        Some(parent) => parent.id.0 < id.0,
+        None => true,
     }
 }
 
-// Whether values name smaller ids only.
-fn are_below(id: Id, values: &[Value]) -> bool
-    ensures { result ≡ list_all (is_below id) values.now }
+// Whether a store that descends, or doesn't, descends with a child of this parent.
+fn still_descends(descends: bool, id: Id, parent: Option<RowKey>) -> bool
+    ensures { result ≡ (descends && is_below id parent) }
 {
-    values.iter().all(|value| is_below(id, value))
+    descends && is_below(id, parent)
 }
 
-// Whether a store that descends, or doesn't, descends with a row of an id.
-fn still_descends(descends: bool, id: Id, row: &Row) -> bool
-    ensures { result ≡ (descends && list_all (is_below id) row.now.values) }
+// Whether users and teams own the rows of a set.
+fn are_owned(store: &Store, set: &[RowKey]) -> bool
+    ensures { result ≡ list_all (λ row. is_owned store.now.present.shape row.table) set.now }
 {
-    descends && are_below(id, row.values.as_slice())
+    set.iter().all(|row| store.is_owned(row.table))
+}
+
+// Whether a change was made; a limit may refuse it.
+fn was_made(done: Result<(), StoreFault>) -> Result<bool, Fault> {
+    match done {
+        Ok(()) => Ok(true),
+        Err(StoreFault::OutOfMemory) => Err(Fault::OutOfMemory),
+        Err(StoreFault::Limit(_)) => Ok(false),
+    }
 }
 
 impl Scene {
@@ -90,9 +103,12 @@ impl Scene {
 
     /// Puts a row.
     pub fn put(&mut self, key: RowKey, row: Row) -> Result<(), Fault> {
-        self.descends = still_descends(self.descends, key.id, &row);
         match self.store.put_row(key.table, key.id, row) {
-            Ok(()) => Ok(()),
+            Ok(()) => {
+                let parent = parent_of(&self.store, &self.definition, key);
+                self.descends = still_descends(self.descends, key.id, parent);
+                Ok(())
+            }
             Err(StoreFault::OutOfMemory) => Err(Fault::OutOfMemory),
             Err(StoreFault::Limit(_)) => Err(Fault::Wrong("refused by the store")),
         }
@@ -121,8 +137,72 @@ impl Scene {
     /// Whether a row would be above itself with this parent.
     pub fn would_circle(&self, row: RowKey, parent: RowKey) -> Result<bool, Fault> {
         if !self.descends {
-            return Err(Fault::Wrong("a row that names an id that isn't smaller"));
+            return Err(Fault::Wrong("a row whose parent's id isn't smaller"));
         }
         Ok(would_circle(&self.store, &self.definition, row, parent))
+    }
+
+    /// The principals that have grants on a row, each with its direct and its inherited rights.
+    pub fn show_grants(&self, row: RowKey, out: &mut String) -> Result<(), Fault> {
+        let mut after = None;
+        for _ in 0..u64::MAX {
+            let Some(principal) = self.store.principal_after(row.table, row.id, after) else {
+                break;
+            };
+            let (direct, inherited) = self.store.grant(row.table, row.id, principal);
+            write!(out, " #{}:{direct}:{inherited}", principal.0)?;
+            after = Some(principal);
+        }
+        Ok(())
+    }
+
+    /// How many principals have grants on a row.
+    pub fn count_grants(&self, row: RowKey) -> u64 {
+        let mut after = None;
+        let mut count: u64 = 0;
+        for _ in 0..u64::MAX {
+            let Some(principal) = self.store.principal_after(row.table, row.id, after) else {
+                break;
+            };
+            count = count.saturating_add(1);
+            after = Some(principal);
+        }
+        count
+    }
+
+    /// Grants rights on a row and on the rows that a share of it reaches, unless a limit refuses it.
+    pub fn grant(
+        &mut self,
+        alloc: Global,
+        target: RowKey,
+        principal: Id,
+        mask: u32,
+    ) -> Result<bool, Fault> {
+        let set = self.closure(alloc, Cascading::Share, target)?;
+        was_made(grant(&mut self.store, set.as_slice(), target, principal, mask))
+    }
+
+    /// Lets a row with another parent, and the rows that this reaches, inherit anew, unless a limit refuses it.
+    pub fn reparent(&mut self, alloc: Global, moved: RowKey) -> Result<bool, Fault> {
+        if !self.descends {
+            return Err(Fault::Wrong("a row whose parent's id isn't smaller"));
+        }
+        let set = closure(
+            alloc,
+            &self.store,
+            &self.definition,
+            Cascading::Reparent,
+            moved,
+        )?;
+        if !are_owned(&self.store, set.as_slice()) {
+            return Err(Fault::Wrong("a row without an owner"));
+        }
+        was_made(reparent(
+            alloc,
+            &mut self.store,
+            &self.definition,
+            set.as_slice(),
+            moved,
+        ))
     }
 }

@@ -1,4 +1,4 @@
-//! A case: rows of a store, and questions about them.
+//! A case: rows of a store, grants on them, and questions about both.
 use crate::asking::ask;
 use crate::rows::row_of;
 use crate::scene::Scene;
@@ -18,26 +18,71 @@ impl Answers for Stories {
         };
         let name = found(first.strip_prefix("over "), "no definition")?;
         let mut scene = Scene::read(rt, name)?;
-        fill_all(rt.alloc(), &mut scene, lines)?;
-        tell_lines(rt.alloc(), &scene, lines)
+        do_lines(rt.alloc(), &mut scene, lines)
     }
 }
 
-// Puts the rows of a case.
-fn fill_all(alloc: Global, scene: &mut Scene, lines: &[&str]) -> Result<(), Fault> {
-    for line in lines {
-        fill(alloc, scene, line)?;
+// Does what a line of a case says, or tells the answer to its question.
+fn do_line(alloc: Global, scene: &mut Scene, line: &str, out: &mut String) -> Result<(), Fault> {
+    match line.split_once(' ') {
+        Some((">", row)) => put_row(alloc, scene, row),
+        Some(("chain", chain)) => put_chain(alloc, scene, chain),
+        Some(("grant", grant)) => tell_limit(grant_rights(alloc, scene, grant)?, out),
+        Some(("grants", grants)) => tell_limit(grant_to_many(alloc, scene, grants)?, out),
+        Some(("reparent", row)) => tell_limit(reparent_row(alloc, scene, row)?, out),
+        Some(("?", question)) => tell(alloc, scene, question, out),
+        _ => Err(Fault::Wrong("no mark of a case")),
+    }
+}
+
+// Tells a change that a limit refused.
+fn tell_limit(was_made: bool, out: &mut String) -> Result<(), Fault> {
+    if !was_made {
+        out.push_str("limit\n")?;
     }
     Ok(())
 }
 
-// What a line puts into the store.
-fn fill(alloc: Global, scene: &mut Scene, line: &str) -> Result<(), Fault> {
-    match line.split_once(' ') {
-        Some((">", row)) => put_row(alloc, scene, row),
-        Some(("chain", chain)) => put_chain(alloc, scene, chain),
-        _ => Ok(()),
+// Does what the lines of a case say.
+fn do_lines(alloc: Global, scene: &mut Scene, lines: &[&str]) -> Result<String, Fault> {
+    let mut out = String::new(alloc);
+    for line in lines {
+        do_line(alloc, scene, line, &mut out)?;
     }
+    Ok(out)
+}
+
+// Grants rights on a row: the row, the principal and the rights.
+fn grant_rights(alloc: Global, scene: &mut Scene, grant: &str) -> Result<bool, Fault> {
+    let words = words_of(alloc, grant)?;
+    let [row, principal, rights] = words.as_slice() else {
+        return Err(Fault::Wrong("no grant"));
+    };
+    let target = key_of(scene.definition(), row)?;
+    scene.grant(alloc, target, id_of(principal)?, rights.parse::<u32>()?)
+}
+
+// Grants the right 1 on a row to principals with ascending ids.
+fn grant_to_many(alloc: Global, scene: &mut Scene, grants: &str) -> Result<bool, Fault> {
+    let words = words_of(alloc, grants)?;
+    let [row, first, count] = words.as_slice() else {
+        return Err(Fault::Wrong("no grants"));
+    };
+    let target = key_of(scene.definition(), row)?;
+    let mut principal = id_of(first)?;
+    for _ in 0..count.parse::<u32>()? {
+        if !scene.grant(alloc, target, principal, 1)? {
+            return Ok(false);
+        }
+        principal = Id(principal.0.saturating_add(1));
+    }
+    Ok(true)
+}
+
+// Lets a row with another parent inherit anew.
+fn reparent_row(alloc: Global, scene: &mut Scene, row: &str) -> Result<bool, Fault> {
+    let moved = key_of(scene.definition(), row)?;
+    scene.reparent(alloc, moved)
 }
 
 // Puts a row of words.
@@ -72,19 +117,6 @@ fn put_chain(alloc: Global, scene: &mut Scene, chain: &str) -> Result<(), Fault>
         id = Id(id.0.saturating_add(1));
     }
     Ok(())
-}
-
-// What the questions of a case are answered.
-fn tell_lines(alloc: Global, scene: &Scene, lines: &[&str]) -> Result<String, Fault> {
-    let mut out = String::new(alloc);
-    for line in lines {
-        match line.split_once(' ') {
-            Some(("?", question)) => tell(alloc, scene, question, &mut out)?,
-            Some((">" | "chain", _)) => {}
-            _ => return Err(Fault::Wrong("no mark of a case")),
-        }
-    }
-    Ok(out)
 }
 
 // The answer to a question, or `none` where it has no words.
