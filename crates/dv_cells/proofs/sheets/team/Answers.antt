@@ -1,0 +1,5 @@
+use Rattle.dv_cells.proofs.NoItem.{no_team}
+use Rattle.dv_cells.proofs.sheets.team.Goals as goal
+
+pub returns-in_err-unit : goal.returns-in_err-unit
+returns-in_err-unit c = rw c.from_residual-in_err-unit.ensures (no_team c.args.key.now c.args.value.now c.in_err-unit.ensures)
