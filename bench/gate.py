@@ -43,7 +43,9 @@ def processes():
 
 
 def part_of(words, folder):
-    """Tells which part of the gate a process works on, or None where it is the gate itself."""
+    """Tells which part of the gate a process works on, or None where it is the gate itself, or is ending and has no words any more."""
+    if not words or not words[0]:
+        return None
     line = " ".join(words)
     if "--crate-name" in words:
         crate = words[words.index("--crate-name") + 1]
