@@ -51,9 +51,9 @@ for name, lines in (("creations", [definition] + creations), ("creations and que
     print(f"{name}: {len(lines) / seconds:,.0f} requests/s, {taken / seconds / 1e6:,.1f} MB/s in, "
           f"{given / seconds / 1e6:,.1f} MB/s out, {seconds:.2f} s, {other / seconds:.2f} times the speed of Python's json")
 
-# One message on a row must not cost more for the rows beside it: the time of 5,000 messages behind the creations, less
+# One message on a row must not cost more for the rows beside it: the time of 50,000 messages behind the creations, less
 # that of the creations alone.
-MESSAGES = 5_000
+MESSAGES = 50_000
 USER = "00000000-0000-0000-0000-00000000000b"
 with_user = line({"root": ROOT, "admin": ADMIN, "users": [{"id": USER, "unit": ROOT}], "tables": [
     {"name": "account", "owned": "user", "columns": [{"name": "name", "type": "text", "max": 100}]}]})
