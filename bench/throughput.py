@@ -8,6 +8,7 @@ The ratio is against a peer in the same run: Python's own json, which reads ever
 """
 import json
 import os
+import resource
 import subprocess
 import sys
 import time
@@ -51,9 +52,10 @@ for name, lines in (("creations", [definition] + creations), ("creations and que
     print(f"{name}: {len(lines) / seconds:,.0f} requests/s, {taken / seconds / 1e6:,.1f} MB/s in, "
           f"{given / seconds / 1e6:,.1f} MB/s out, {seconds:.2f} s, {other / seconds:.2f} times the speed of Python's json")
 
-# One message on a row must not cost more for the rows beside it: the time of 50,000 messages behind the creations, less
-# that of the creations alone.
-MESSAGES = 50_000
+# One message on a row must not cost more for the rows beside it: the processor time of 100,000 messages behind the
+# creations, less that of the creations alone. They name 5,000 rows, spread over the table, each of them twenty times.
+# Both sizes are measured one after another in each round, and the round with the median ratio is told.
+MESSAGES, NAMED, ROUNDS = 100_000, 5_000, 9
 USER = "00000000-0000-0000-0000-00000000000b"
 with_user = line({"root": ROOT, "admin": ADMIN, "users": [{"id": USER, "unit": ROOT}], "tables": [
     {"name": "account", "owned": "user", "columns": [{"name": "name", "type": "text", "max": 100}]}]})
@@ -64,7 +66,7 @@ def about(row, message):
 
 
 def messages(rows, make):
-    return [about(1 + k * 7919 % rows, make(k)) for k in range(MESSAGES)]
+    return [about(1 + k * 7919 % NAMED * (rows // NAMED), make(k)) for k in range(MESSAGES)]
 
 
 KINDS = {
@@ -75,19 +77,23 @@ KINDS = {
 }
 
 
-def best(lines):
-    return min(timed(lines)[0] for _ in range(3))
+def processor_time(lines):
+    before = resource.getrusage(resource.RUSAGE_CHILDREN)
+    subprocess.run([PROGRAM, "run"], input="".join(lines).encode(), stdout=subprocess.DEVNULL, check=True)
+    after = resource.getrusage(resource.RUSAGE_CHILDREN)
+    return after.ru_utime + after.ru_stime - before.ru_utime - before.ru_stime
 
 
-spent = {}
-for rows in (5_000, 100_000):
+def spent(rows, make):
     made = [with_user] + [creations[k % CREATIONS] for k in range(rows)]
-    alone = best(made)
-    for name, make in KINDS.items():
-        spent[name, rows] = (best(made + messages(rows, make)) - alone) / MESSAGES * 1e6
-for name in KINDS:
-    few, many = spent[name, 5_000], spent[name, 100_000]
-    print(f"{name}: {1e6 / few:,.0f} a second among 5,000 rows, {1e6 / many:,.0f} among 100,000; one takes {many / few:.2f} times as long there")
+    return (processor_time(made + messages(rows, make)) - processor_time(made)) / MESSAGES
+
+
+for name, make in KINDS.items():
+    rounds = sorted(((spent(5_000, make), spent(100_000, make)) for _ in range(ROUNDS)), key=lambda r: r[1] / r[0])
+    few, many = rounds[ROUNDS // 2]
+    print(f"{name}: {1 / few:,.0f} a second among 5,000 rows, {1 / many:,.0f} among 100,000; one takes {many / few:.2f} times "
+          f"as long there ({rounds[0][1] / rounds[0][0]:.2f} to {rounds[-1][1] / rounds[-1][0]:.2f})")
 
 # A line above the limit is read to its end and refused.
 seconds, taken, given, replies = timed([definition, "x" * 200_000_000 + "\n"])
