@@ -1,12 +1,13 @@
 -- A text in which no pass finds a fault has each name resolved.
-use Rattle.std.proofs.Common.{◌≡◌, ℕ, Option, None, slice_get, Some}
-use Rattle.std.specs.Prelude.{position}
+use Rattle.std.proofs.Common.{◌≡◌, ℕ, None, slice_get, Some}
 use Rattle.dv_schema.specs.declared.definition.Definition.{Definition}
 use Rattle.dv_schema.specs.declared.draft.Draft.{Draft}
 use Rattle.dv_schema.specs.declared.draft.DraftColumn.{DraftColumn}
 use Rattle.dv_schema.specs.declared.draft.DraftTable.{DraftTable}
 use Rattle.dv_schema.specs.declared.opening.Entry.{Entry}
 use Rattle.dv_schema.specs.declared.opening.Role.{Role}
+use Rattle.dv_schema.specs.Limits.{IsWithinLimits}
+use Rattle.dv_schema.specs.Sound.{IsSound}
 use Rattle.dv_opening.specs.Opening.{bad_directory, refused_unit, refused_role, refused_user, refused_team}
 use Rattle.dv_meta.specs.Accepted.{IsDefinitionOf}
 use Rattle.dv_meta.specs.Faults.{first_fault}
@@ -15,7 +16,6 @@ use Rattle.dv_meta.specs.Named.{owned}
 use Rattle.dv_meta.specs.Relations.{bad_cascade, ownership_clash, second_parent, empties_required, clashes, is_second}
 use Rattle.dv_meta.specs.Resolved.{IsResolved, IsResolvedColumn, IsResolvedEntry}
 use Rattle.dv_meta.specs.Rollups.{rollup_bad, bad_in, bad_rollup}
-use Rattle.dv_meta.specs.Sound.{IsSound}
 use Rattle.dv_meta.specs.Steps.{unknown_step, step_unknown}
 use Rattle.dv_meta.specs.UnknownName.{unknown_name, unknown_in_tables, unknown_in_relationships, unknown_in_steps, unknown_in_roles, unknown_in, column_unknown, relationship_unknown, registration_unknown, role_unknown, privilege_unknown}
 use Rattle.dv_meta.proofs.FoundLaws.{option_or-none, option_map-none, position-none, position_at-none, list_any-none, first_from-none}
@@ -125,5 +125,5 @@ resolved_faultless d steps e =
       teams = resolved-teams d.opening directory.teams;
     }
 
-pub sound_faultless : (d : Draft) (definition : Definition) (steps : ℕ) → first_fault d steps ≡ None → IsDefinitionOf d definition → IsSound definition
-sound_faultless d definition steps e meaning = sound_resolved d definition steps meaning (resolved_faultless d steps e) (passed d steps e).taken
+pub sound_faultless : (d : Draft) (definition : Definition) (steps : ℕ) → IsWithinLimits d → first_fault d steps ≡ None → IsDefinitionOf d definition → IsSound definition
+sound_faultless d definition steps limits e meaning = sound_resolved d definition steps limits meaning (resolved_faultless d steps e) (passed d steps e).taken

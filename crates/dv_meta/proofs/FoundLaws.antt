@@ -1,6 +1,6 @@
 -- What a search that finds nothing, or finds something first, says of each item.
-use Rattle.std.proofs.Common.{◌≡◌, ℕ, ◌+◌, ◌<◌, ◌≤◌, Bool, true, false, cond, ltb, List, [], ◌∷◌, ◌++◌, length, map, get_or, Option, Some, None, is_some, refl, sym, ap, ◌∙◌, arith, zero, suc, subst, slice_get, true≢false}
-use Rattle.std.specs.Prelude.{◌||◌, ◌&&◌, not, option_map, option_and_then, unwrap_or, position, is_none}
+use Rattle.std.proofs.Common.{◌≡◌, ℕ, ◌+◌, ◌≤◌, Bool, true, false, cond, ltb, List, [], ◌∷◌, ◌++◌, length, Option, Some, None, is_some, refl, sym, ap, ◌∙◌, arith, zero, suc, slice_get, true≢false}
+use Rattle.std.specs.Prelude.{◌||◌, ◌&&◌, not, option_map, option_and_then, unwrap_or, position}
 use Rattle.std.specs.List.{list_any, enumerate_from, position_or_len}
 use Rattle.std.specs.Option.{option_or, option_map_or}
 use Rattle.std.proofs.lemmas.List.Sums.{fails_before_first}
@@ -23,6 +23,10 @@ or-false false b e = (refl, e)
 pub and-true : (a b : Bool) → (a && b) ≡ true → (a ≡ true) × (b ≡ true)
 and-true true b e = (refl, e)
 and-true false b e = absurd (true≢false (sym e))
+
+pub and-rest : (a b : Bool) → a ≡ true → (a && b) ≡ false → b ≡ false
+and-rest true b e f = f
+and-rest false b e f = absurd (true≢false (sym e))
 
 pub not-false : (a : Bool) → not a ≡ false → a ≡ true
 not-false true e = refl

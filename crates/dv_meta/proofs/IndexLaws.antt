@@ -1,6 +1,5 @@
 -- An index of a list's names, item by item.
 use Rattle.std.proofs.Common.{◌≡◌, ℕ, ◌+◌, ◌<◌, ◌≤◌, List, [], ◌∷◌, ◌++◌, length, map, take, get_or, Some, None, cond, refl, sym, ap, ◌∙◌, arith, zero-add, subst, zero, suc, append_assoc, slice_get, flat_map}
-use Rattle.std.specs.Prelude.{◌&&◌}
 use Rattle.std.specs.Option.{option_or}
 use Rattle.std.proofs.lemmas.List.{map-append, take_more, take_all, length-map, length-take-le, length_push, flat_map_more}
 use Rattle.dv_schema.specs.declared.draft.DraftForm.{DraftForm}

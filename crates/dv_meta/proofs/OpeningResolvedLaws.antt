@@ -1,7 +1,6 @@
 -- What an opening directory that is made names is there.
-use Rattle.std.proofs.Common.{◌≡◌, ℕ, ◌+◌, Bool, true, false, cond, List, length, Option, Some, None, is_some, refl, sym, ap, ◌∙◌, slice_get, true≢false}
+use Rattle.std.proofs.Common.{◌≡◌, ℕ, ◌+◌, Bool, true, false, cond, List, length, Option, Some, None, is_some, refl, slice_get, true≢false}
 use Rattle.std.specs.Prelude.{◌||◌, ◌==◌, not}
-use Rattle.std.specs.List.{list_any}
 use Rattle.dv_value.specs.declared.id.Id.{Id}
 use Rattle.dv_schema.specs.declared.opening.Opening.{Opening}
 use Rattle.dv_schema.specs.declared.opening.OpeningTeam.{OpeningTeam}
@@ -11,7 +10,7 @@ use Rattle.dv_schema.specs.declared.place.Place.{Place}
 use Rattle.dv_schema.specs.declared.place.Place.TheVariants as at
 use Rattle.dv_opening.specs.Directory.{Directory, Cause, Seat, IdTaken, UnknownUnit, UnknownUser, UnknownRole, AUser, adding_unit, adding_user, adding_team, adding_member, giving_role}
 use Rattle.dv_opening.specs.Opening.{made, unit_refused, user_refused, gift_refused, member_refused, team_alone_refused, team_refused, team_seat, overfull, refused_unit, refused_user, refused_team}
-use Rattle.dv_meta.specs.Resolved.{AreRoles, AreUsers, IsResolvedUnit, IsResolvedUser, IsResolvedTeam}
+use Rattle.dv_meta.specs.Resolved.{IsResolvedUnit, IsResolvedUser, IsResolvedTeam}
 use Rattle.dv_meta.proofs.FoundLaws.{option_map-none, or-false, list_any-none, position_at-none, first_from-none}
 
 first-cause : (b : Bool) (x : Cause) (rest : Option Cause) → is_some (cond (not b) (Some x) rest) ≡ false → b ≡ true

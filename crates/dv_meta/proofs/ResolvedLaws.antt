@@ -1,11 +1,10 @@
 -- What a text without a fault names is there.
-use Rattle.std.proofs.Common.{◌≡◌, ℕ, ◌+◌, ◌<◌, ◌≤◌, Bool, true, false, cond, ltb, leb, eqb, List, [], ◌∷◌, ◌++◌, length, map, flat_map, Option, Some, None, is_some, refl, sym, ap, ◌∙◌, arith, zero, suc, subst, slice_get, true≢false}
-use Rattle.std.specs.Prelude.{◌||◌, ◌&&◌, not, option_map, option_and_then, unwrap_or, is_none, encode_utf8_all, position}
-use Rattle.std.specs.List.{list_any, enumerate_from}
-use Rattle.std.specs.Option.{option_or, option_map_or}
+use Rattle.std.proofs.Common.{◌≡◌, ℕ, ◌<◌, Bool, true, false, ltb, List, [], ◌∷◌, ◌++◌, map, flat_map, Some, is_some, refl, sym, ap, ◌∙◌, arith, slice_get, true≢false}
+use Rattle.std.specs.Prelude.{◌||◌, ◌&&◌, not, option_map, option_and_then, is_none, encode_utf8_all}
+use Rattle.std.specs.List.{list_any}
+use Rattle.std.specs.Option.{option_map_or}
 use Rattle.std.proofs.lemmas.Slice.Eq.{bytes_eq-Decides}
 use Rattle.std.proofs.lemmas.Bool.Decides.{nat_tests}
-use Rattle.dv_value.specs.declared.id.Id.{Id}
 use Rattle.dv_schema.specs.declared.draft.Draft.{Draft}
 use Rattle.dv_schema.specs.declared.draft.DraftColumn.{DraftColumn}
 use Rattle.dv_schema.specs.declared.draft.DraftForm.{DraftForm}
@@ -15,24 +14,17 @@ use Rattle.dv_schema.specs.declared.draft.DraftRelationship.{DraftRelationship}
 use Rattle.dv_schema.specs.declared.draft.DraftRollup.{DraftRollup}
 use Rattle.dv_schema.specs.declared.draft.DraftTable.{DraftTable}
 use Rattle.dv_schema.specs.declared.opening.Entry.{Entry}
-use Rattle.dv_schema.specs.declared.opening.Opening.{Opening}
-use Rattle.dv_schema.specs.declared.opening.OpeningTeam.{OpeningTeam}
-use Rattle.dv_schema.specs.declared.opening.OpeningUnit.{OpeningUnit}
-use Rattle.dv_schema.specs.declared.opening.OpeningUser.{OpeningUser}
-use Rattle.dv_schema.specs.declared.opening.Role.{Role}
-use Rattle.dv_schema.specs.First.{first_from}
 use Rattle.dv_schema.specs.Names.{Name, place_of, same_name}
 use Rattle.dv_meta.specs.Accepted.{number_in_table, source_number}
 use Rattle.dv_meta.specs.Columns.{column_names, own_names, names_by, names_of, system_names}
-use Rattle.dv_meta.specs.Faults.{first_fault}
-use Rattle.dv_meta.specs.NameTaken.{name_taken, taken_in_relationships, takes_column}
+use Rattle.dv_meta.specs.NameTaken.{takes_column}
 use Rattle.dv_meta.specs.Named.{table_names, relationship_names, table_named, relationship_named, column_named, own_column, lookup_of, has_lookup, lookup_number}
-use Rattle.dv_meta.specs.Relations.{bad_cascade, ownership_clash, second_parent, empties_required, clashes, is_second, is_parental, parental_of}
+use Rattle.dv_meta.specs.Relations.{empties_required, clashes, is_second, is_parental, parental_of}
 use Rattle.dv_meta.specs.Resolved.{IsFound, IsTable, IsResolvedRelationship, IsCalculable, IsResolvedForm, IsResolvedColumn, IsResolvedRegistration, IsResolvedEntry}
-use Rattle.dv_meta.specs.Rollups.{rollup_bad, bad_in, bad_rollup, goes_over, source_suits, form_bad}
-use Rattle.dv_meta.specs.Steps.{unknown_step, step_unknown}
-use Rattle.dv_meta.specs.UnknownName.{unknown_name, unknown_in_tables, unknown_in_relationships, unknown_in_steps, unknown_in_roles, unknown_in, column_unknown, form_unknown, relationship_unknown, names_lookup, is_lookup, rollup_unknown, of_unknown, source_of, registration_unknown, registration_unknown_on, given_unknown, names_unknown, role_unknown, privilege_unknown}
-use Rattle.dv_meta.proofs.FoundLaws.{option_or-none, option_map-none, or-false, and-true, not-false, and_then-some, map_or-true, map_or-false, found, some_is, position-none, position_at-none, list_any-none, first_from-none, first_exact, first_any, places, list_any-append, or-first, or-second}
+use Rattle.dv_meta.specs.Rollups.{rollup_bad, goes_over, source_suits, form_bad}
+use Rattle.dv_meta.specs.Steps.{step_unknown}
+use Rattle.dv_meta.specs.UnknownName.{column_unknown, form_unknown, relationship_unknown, names_lookup, is_lookup, rollup_unknown, of_unknown, source_of, registration_unknown, registration_unknown_on, given_unknown, names_unknown, privilege_unknown}
+use Rattle.dv_meta.proofs.FoundLaws.{or-false, and-true, and-rest, not-false, and_then-some, map_or-true, map_or-false, found, some_is, first_exact, first_any, list_any-append, or-first, or-second}
 
 -- a name is among names where one of them is it
 among : (names : List Name) (name : Name) → is_some (place_of names name) ≡ list_any (same_name name) names
@@ -108,10 +100,6 @@ unfolding is_second parental_of
 only-parent d k r at second parental =
     first_exact (λ x. is_parental x && same_name r.child x.child) d.relationships k r at (both-true (is_parental r) (same_name r.child r.child) parental (same_name-refl r.child))
     (and-rest (is_parental r) _ parental second)
-  where
-    and-rest : (a b : Bool) → a ≡ true → (a && b) ≡ false → b ≡ false
-    and-rest true b e f = f
-    and-rest false b e f = absurd (true≢false (sym e))
 
 pub resolved-relationship : (d : Draft) (k : ℕ) (r : DraftRelationship) → slice_get d.relationships k ≡ Some r → takes_column d (k, r) ≡ false → relationship_unknown d r ≡ false
     → empties_required d r ≡ false → clashes d r ≡ false → is_second d (k, r) ≡ false → IsResolvedRelationship d k r

@@ -10,6 +10,5 @@ pub mod Reader
 pub mod Relations
 pub mod Resolved
 pub mod Rollups
-pub mod Sound
 pub mod Steps
 pub mod UnknownName

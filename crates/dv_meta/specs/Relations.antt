@@ -8,20 +8,16 @@ use Rattle.dv_schema.specs.declared.draft.DraftRelationship.{DraftRelationship}
 use Rattle.dv_schema.specs.declared.place.Place.{Place}
 use Rattle.dv_schema.specs.declared.place.Place.TheVariants as at
 use Rattle.dv_schema.specs.declared.relationship.Cascade.{Cascade}
-use Rattle.dv_schema.specs.declared.relationship.Cascade.TheVariants.{NoCascade, RemoveLink}
+use Rattle.dv_schema.specs.declared.relationship.Cascade.TheVariants.{RemoveLink}
 use Rattle.dv_schema.specs.First.{first}
 use Rattle.dv_meta.specs.Named.{table_named, column_named}
 use Rattle.dv_schema.specs.Names.{Name, same_name}
+use Rattle.dv_schema.specs.Sound.{hands_on}
 
 -- whether a delete of the parent empties the lookup
 abbrev pub empties : Cascade → Bool
 empties RemoveLink = true
 empties _ = false
-
--- whether anything is handed on
-abbrev pub hands_on : Cascade → Bool
-hands_on NoCascade = false
-hands_on _ = true
 
 -- whether a delete of the parent would empty a required column
 unfoldable pub empties_required : Draft → DraftRelationship → Bool

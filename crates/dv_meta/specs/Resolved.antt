@@ -1,6 +1,6 @@
 -- What the names of an accepted text name: each is there, so that no number in the definition is the 0 of a name that
 -- is missing. Later rules may rest on these facts.
-use Rattle.std.specs.Prelude.{◌≡◌, ◌<◌, ◌==◌, ◌||◌, ℕ, true, false, List, length, Option, Some, slice_get, option_map, is_some}
+use Rattle.std.specs.Prelude.{◌≡◌, ◌<◌, ◌==◌, ◌||◌, ℕ, true, false, List, length, Option, Some, option_map, is_some}
 use Rattle.dv_value.specs.declared.id.Id.{Id}
 use Rattle.dv_schema.specs.declared.draft.Draft.{Draft}
 use Rattle.dv_schema.specs.declared.draft.DraftColumn.{DraftColumn}
@@ -15,8 +15,8 @@ use Rattle.dv_schema.specs.declared.opening.Opening.{Opening}
 use Rattle.dv_schema.specs.declared.opening.OpeningTeam.{OpeningTeam}
 use Rattle.dv_schema.specs.declared.opening.OpeningUnit.{OpeningUnit}
 use Rattle.dv_schema.specs.declared.opening.OpeningUser.{OpeningUser}
-use Rattle.dv_schema.specs.declared.opening.Role.{Role}
 use Rattle.dv_schema.specs.Names.{Name, place_of}
+use Rattle.dv_schema.specs.Sound.{Each}
 use Rattle.dv_opening.specs.Directory.{Directory}
 use Rattle.dv_opening.specs.Opening.{made}
 use Rattle.dv_meta.specs.Accepted.{number_of, number_in_table, source_number}
@@ -24,10 +24,6 @@ use Rattle.dv_meta.specs.Named.{table_names, relationship_names, table_named, co
 use Rattle.dv_meta.specs.Relations.{empties_required, clashes, is_parental, parental_of}
 use Rattle.dv_meta.specs.Rollups.{goes_over, source_suits}
 use Rattle.dv_meta.specs.UnknownName.{source_of, given_unknown, names_unknown}
-
--- what holds of each item of a list and its place
-abbrev pub Each : {X : Type 0} → List X → (ℕ → X → Type 0) → Type 0
-Each {X} xs P = (k : ℕ) (x : X) → slice_get xs k ≡ Some x → P k x
 
 -- a name was found, and its number is the one that stands in the definition
 abbrev pub IsFound : Option ℕ → Type 0

@@ -2,8 +2,9 @@
 //!
 //! Callers may rely on this: a definition is accepted whole or refused with its first fault; in an accepted one every
 //! name is resolved to a number, every lookup has its relationship, a table is the child of at most one parental
-//! relationship, every rollup can be calculated, and the opening directory can be made. The clauses of
-//! [`read_definition`] say it of the text (`resolved`) and of the numbers of the definition (`sound`).
+//! relationship, which joins tables whose rows have owners, every rollup can be calculated, and the opening directory
+//! can be made. The clauses of [`read_definition`] say it of the text (`resolved`) and of the numbers of the definition
+//! (`sound`).
 #![tactic(auto)]
 
 mod building;

@@ -2,8 +2,8 @@
 ghost use Rattle.std.specs.Prelude.{◌≡◌, Some, IfOk, IfErr, OnOk};
 ghost use Rattle.dv_meta.specs.Reader.{IsAccepted, IsFirstFault};
 ghost use Rattle.dv_meta.specs.Resolved.{IsResolved};
-ghost use Rattle.dv_meta.specs.Sound.{IsSound};
 ghost use Rattle.dv_schema.specs.Form.{draft_in};
+ghost use Rattle.dv_schema.specs.Sound.{IsSound};
 
 use crate::resolving::resolve;
 use dv_schema::{DefFault, Definition, read_form};

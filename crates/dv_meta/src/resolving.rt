@@ -3,9 +3,9 @@ ghost use Rattle.std.specs.Prelude.{◌≡◌, None, IfOk, IfErr, OnOk};
 ghost use Rattle.dv_meta.specs.Accepted.{IsDefinitionOf};
 ghost use Rattle.dv_meta.specs.Faults.{first_fault, IsTold};
 ghost use Rattle.dv_meta.specs.Resolved.{IsResolved};
-ghost use Rattle.dv_meta.specs.Sound.{IsSound};
 ghost use Rattle.dv_meta.specs.Index.{IsIndexOf};
 ghost use Rattle.dv_schema.specs.Limits.{IsWithinLimits};
+ghost use Rattle.dv_schema.specs.Sound.{IsSound};
 
 use crate::building::{registrations_of, relationships_of, tables_of};
 use crate::index::Index;

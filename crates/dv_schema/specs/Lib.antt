@@ -6,4 +6,5 @@ pub mod Limits
 pub mod Names
 pub mod Places
 pub mod Reading
+pub mod Sound
 pub mod Words

@@ -4,9 +4,10 @@ ghost use Rattle.std.specs.List.{enumerate_from};
 ghost use Rattle.std.specs.Option.{option_or};
 ghost use Rattle.dv_schema.specs.declared.draft.Draft.{Draft};
 ghost use Rattle.dv_schema.specs.Names.{Name, same_name};
+ghost use Rattle.dv_schema.specs.Sound.{hands_on};
 ghost use Rattle.dv_meta.specs.Index.{AddsIf, FindsParents};
 ghost use Rattle.dv_meta.specs.Numbers.{number_in};
-ghost use Rattle.dv_meta.specs.Relations.{hands_on, is_parental, parental_of, is_second, second_parent};
+ghost use Rattle.dv_meta.specs.Relations.{is_parental, parental_of, is_second, second_parent};
 
 use crate::index::names::Numbers;
 use dv_schema::{Cascade, Draft, DraftRelationship, Place};
