@@ -1,7 +1,7 @@
 //! The definition and the store of a case, and what can be asked of them.
 ghost use Rattle.std.specs.Prelude.{◌≡◌, ◌&&◌, IfOk};
 ghost use Rattle.std.specs.List.{list_all};
-ghost use Rattle.dv_meta.specs.Sound.{IsSound};
+ghost use Rattle.dv_schema.specs.Sound.{IsSound};
 ghost use Rattle.dv_store.specs.Shapes.{is_owned};
 ghost use Rattle.cascade_cases.specs.Scenes.{is_below};
 

@@ -13,7 +13,8 @@ use Rattle.dv_store.specs.Keys.{row_key}
 use Rattle.dv_store.specs.Shapes.{place_of}
 use Rattle.dv_store.specs.World.{World, named_in, is_id}
 use Rattle.dv_cascade.specs.Chains.{is_among, Chain, Reaches}
-use Rattle.dv_cascade.specs.Circles.{is_parental, is_parental_of, named_by, parent_of, HasNoCircle, HasOneParent, IsUnderParent}
+use Rattle.dv_schema.specs.Sound.{is_parental}
+use Rattle.dv_cascade.specs.Circles.{is_parental_of, named_by, parent_of, HasNoCircle, HasOneParent, IsUnderParent}
 use Rattle.dv_cascade.specs.Found.{AreOf}
 use Rattle.dv_cascade.proofs.Among.{among-push}
 use Rattle.dv_cascade.proofs.Left.{are_of-push, are_of_within}

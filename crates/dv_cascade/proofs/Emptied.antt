@@ -22,7 +22,7 @@ use Rattle.dv_cascade.specs.declared.lookup.LookupKey.{LookupKey}
 use Rattle.dv_cascade.specs.contracts.lookup.LookupKeyOrd.TheImpl.Laws.{total-law}
 use Rattle.dv_cascade.specs.Links.{relationship_at}
 use Rattle.dv_cascade.specs.Chains.{is_among, AreExactly}
-use Rattle.dv_cascade.specs.Removal.{is_remove_link, lookup_cmp, EmptiesBy, IsCleared, NamesInto}
+use Rattle.dv_cascade.specs.Removal.{empties_lookups, lookup_cmp, EmptiesBy, IsCleared, NamesInto}
 use Rattle.dv_cascade.specs.Cleared.{is_lookup, has_lookup, Adds, IsSpared, Names}
 use Rattle.dv_cascade.proofs.Among.{among-at, among-place, at-past, or-left, or-right, or-split}
 
@@ -215,7 +215,7 @@ parents_end w r set last a b past f = said (Below set (Names w r set) last) (Nam
         let place = among-place set h.parent h.inside in
         record { place = place.0; below = at-past set last place.0 h.parent past place.1; item = h.parent; there = place.1; is = record { column = h.column; is = h.is } }
 
-pub empties : (w : World) (set : List RowKey) (r : Relationship) (a b : List LookupKey) → is_remove_link r.delete ≡ true → Adds (NamesInto w r set) a b → Adds (EmptiesBy w set r) a b
+pub empties : (w : World) (set : List RowKey) (r : Relationship) (a b : List LookupKey) → empties_lookups r.delete ≡ true → Adds (NamesInto w r set) a b → Adds (EmptiesBy w set r) a b
 empties w set r a b e f = said (NamesInto w r set) (EmptiesBy w set r) a b (λ key h. record { empties = e; into = h }) (λ key h. h.into) f
 
 -- all relationships that have numbers were walked over

@@ -152,7 +152,7 @@ module _ (w : World) (d : Definition) (cascading : Cascading) (parent : RowKey) 
           of (inl below) = inl (record { number = h.number; below = below; relationship = h.relationship; there = h.there; by = h.by })
           of (inr same) = inr (subst (λ x. LeadsBy w x (cascade_by cascading x) parent key) (same_relationship h.relationship r (sym h.there ∙ ap (slice_get (relationships_of d)) same ∙ there)) h.by)
 
-  at_number : (number : ℕ) (r : Relationship) → relationship_at d number ≡ Some r → (number < 65536) × (slice_get (relationships_of d) number ≡ Some r)
+  pub at_number : (number : ℕ) (r : Relationship) → relationship_at d number ≡ Some r → (number < 65536) × (slice_get (relationships_of d) number ≡ Some r)
   at_number number r is = of (nat_lt number 65536) refl is
     where
       of : (b : Bool) → nat_lt number 65536 ≡ b → cond b (slice_get (relationships_of d) number) None ≡ Some r → (number < 65536) × (slice_get (relationships_of d) number ≡ Some r)

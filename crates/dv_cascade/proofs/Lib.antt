@@ -7,3 +7,7 @@ pub mod Least
 pub mod Climbing
 pub mod Blocked
 pub mod Emptied
+pub mod OneParent
+pub mod Owned
+pub mod Relinked
+pub mod Sounding

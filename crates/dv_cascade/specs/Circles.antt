@@ -1,26 +1,16 @@
 -- Rows above rows, by parental links.
-use Rattle.std.specs.Prelude.{◌≡◌, ℕ, suc, Bool, true, false, ◌&&◌, ◌||◌, ◌==◌, Option, None, Some, option_map, find, slice_get}
+use Rattle.std.specs.Prelude.{◌≡◌, ℕ, suc, ◌⊎◌, Bool, true, ◌&&◌, ◌==◌, Option, None, Some, option_map, find, slice_get}
 use Rattle.std.specs.FinMap as map
 use Rattle.dv_schema.specs.declared.definition.Definition.{Definition}
-use Rattle.dv_schema.specs.declared.relationship.Cascade.{Cascade}
-use Rattle.dv_schema.specs.declared.relationship.Cascade.TheVariants.{NoCascade}
 use Rattle.dv_schema.specs.declared.relationship.Relationship.{Relationship}
 use Rattle.dv_schema.specs.Definitions.{relationships_of}
+use Rattle.dv_schema.specs.Sound.{is_parental}
 use Rattle.dv_store.specs.declared.keys.RowKey.{RowKey}
 use Rattle.dv_store.specs.Keys.{row_key}
 use Rattle.dv_store.specs.Shapes.{place_of}
 use Rattle.dv_store.specs.World.{World, named_in}
 use Rattle.dv_cascade.specs.Links.{Refers}
-use Rattle.dv_cascade.specs.Chains.{Chain}
-
--- whether a cascade is one at all
-abbrev pub hands_on : Cascade → Bool
-hands_on NoCascade = false
-hands_on _ = true
-
--- whether a relationship is parental: an assignment, a share, the end of one or a new parent is handed on
-abbrev pub is_parental : Relationship → Bool
-is_parental r = hands_on r.assign || (hands_on r.share || (hands_on r.unshare || hands_on r.reparent))
+use Rattle.dv_cascade.specs.Chains.{Chain, Reaches}
 
 -- a row names another by a parental relationship of the definition
 pub record IsUnderParent (w : World) (d : Definition) (child parent : RowKey) : Type 0 where
@@ -50,3 +40,11 @@ named_by w key (Some r) = option_map (row_key r.parent) (named_in (map.get w.row
 -- the row that a row names by the parental relationship of its table
 unfoldable pub parent_of : World → Definition → RowKey → Option RowKey
 parent_of w d key = named_by w key (find (is_parental_of key.table) (relationships_of d))
+
+-- each parental link of a world is one of an earlier world, or puts one row under a parent of which something is so
+pub record AddsLinksOf (old new : World) (d : Definition) (row : RowKey) (IsNew : RowKey → Type 0) : Type 0 where
+  pub links : (child parent : RowKey) → IsUnderParent new d child parent → IsUnderParent old d child parent ⊎ ((child ≡ row) × IsNew parent)
+
+-- a parent is neither a row itself nor below it: no chain of parental links leads from the parent up to the row
+abbrev pub IsNotUnder : World → Definition → RowKey → RowKey → Type 0
+IsNotUnder w d row parent = Reaches (IsUnderParent w d) parent row → ⊥

@@ -4,3 +4,4 @@ pub mod Circles
 pub mod Found
 pub mod Removal
 pub mod Cleared
+pub mod Sound

@@ -2,8 +2,8 @@
 use Rattle.std.specs.Prelude.{◌≡◌, ◌<◌, ℕ, Bool, true, false, Option, None, Some, List}
 use Rattle.std.specs.declared.cmp.Ordering.{Ordering}
 use Rattle.dv_schema.specs.declared.definition.Definition.{Definition}
-use Rattle.dv_schema.specs.declared.relationship.Cascade.{Cascade}
-use Rattle.dv_schema.specs.declared.relationship.Cascade.TheVariants.{RemoveLink, Restrict}
+use Rattle.dv_schema.specs.declared.relationship.Cascade as kind
+use Rattle.dv_schema.specs.declared.relationship.Cascade.TheVariants.{Cascade, Restrict}
 use Rattle.dv_schema.specs.declared.relationship.Relationship.{Relationship}
 use Rattle.dv_store.specs.declared.keys.RowKey.{RowKey}
 use Rattle.dv_store.specs.World.{World}
@@ -29,7 +29,7 @@ pub record IsReferredTo (w : World) (r : Relationship) (set : List RowKey) : Typ
   pub has : HasOutside w r set parent
 
 -- whether a cascade restricts removals
-abbrev pub is_restrict : Cascade → Bool
+abbrev pub is_restrict : kind.Cascade → Bool
 is_restrict Restrict = true
 is_restrict _ = false
 
@@ -58,10 +58,12 @@ IsFirst IsOf (Some number) = IsLeastNumber IsOf number
 abbrev pub lookup_cmp : LookupKey → LookupKey → Ordering
 lookup_cmp = lookup_order.ghosts.cmp
 
--- whether a cascade empties lookups
-abbrev pub is_remove_link : Cascade → Bool
-is_remove_link RemoveLink = true
-is_remove_link _ = false
+-- Whether a removal empties lookups: unless it takes the children along, or they hold the parent back. Of the cascades
+-- that a removal can have this is RemoveLink alone.
+abbrev pub empties_lookups : kind.Cascade → Bool
+empties_lookups Cascade = false
+empties_lookups Restrict = false
+empties_lookups _ = true
 
 -- a relationship's lookup of a row outside a set names a row of the set
 pub record NamesInto (w : World) (r : Relationship) (set : List RowKey) (lookup : LookupKey) : Type 0 where
@@ -72,7 +74,7 @@ pub record NamesInto (w : World) (r : Relationship) (set : List RowKey) (lookup 
 
 -- a relationship empties a lookup where a set is removed: it empties lookups, and this is one of a row outside that names a row of the set
 pub record EmptiesBy (w : World) (set : List RowKey) (r : Relationship) (lookup : LookupKey) : Type 0 where
-  pub empties : is_remove_link r.delete ≡ true
+  pub empties : empties_lookups r.delete ≡ true
   pub into : NamesInto w r set lookup
 
 -- some relationship of the definition does so

@@ -3,11 +3,12 @@ ghost use Rattle.std.specs.Prelude.{◌≡◌, ◌↔◌, IsTrue, Some, find};
 ghost use Rattle.std.specs.FinMap as map;
 ghost use Rattle.std.specs.Option.{option_copied};
 ghost use Rattle.dv_schema.specs.Definitions.{relationships_of};
+ghost use Rattle.dv_schema.specs.Sound.{hands_on, is_parental};
 ghost use Rattle.dv_store.specs.Keys.{is_row};
 ghost use Rattle.dv_store.specs.Shapes.{place_of};
 ghost use Rattle.dv_store.specs.World.{named_in};
 ghost use Rattle.dv_cascade.specs.Chains.{Reaches};
-ghost use Rattle.dv_cascade.specs.Circles.{hands_on, is_parental, is_parental_of, named_by, parent_of, HasNoCircle, HasOneParent, IsUnderParent};
+ghost use Rattle.dv_cascade.specs.Circles.{is_parental_of, named_by, parent_of, HasNoCircle, HasOneParent, IsUnderParent};
 
 use dv_schema::{Cascade, Definition, Relationship};
 use dv_store::{RowKey, Store, named_at};
@@ -20,8 +21,8 @@ fn hands_on(cascade: Cascade) -> bool
     cascade != Cascade::NoCascade
 }
 
-/// Whether a relationship is parental.
-fn is_parental(relationship: &Relationship) -> bool
+/// Whether a relationship is parental: an assignment, a share, the end of one or a new parent is handed on.
+pub fn is_parental(relationship: &Relationship) -> bool
     ensures { result ≡ is_parental relationship.now }
 {
     if hands_on(relationship.assign) || hands_on(relationship.share) {
@@ -38,7 +39,7 @@ fn is_parental_of(relationship: &Relationship, table: u16) -> bool
 }
 
 /// The parental relationship of a child table, if it has one.
-fn parental_of(definition: &Definition, table: u16) -> Option<&Relationship>
+pub fn parental_of(definition: &Definition, table: u16) -> Option<&Relationship>
     ensures { option_copied result ≡ find (is_parental_of table) (relationships_of definition.now) }
 {
     definition

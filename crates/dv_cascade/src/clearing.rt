@@ -3,7 +3,7 @@ ghost use Rattle.std.specs.Prelude.{◌≡◌, IfOk, OnOk, Some, slice_get};
 ghost use Rattle.dv_store.specs.Shapes.{shape_of};
 ghost use Rattle.dv_cascade.specs.Links.{link_of};
 ghost use Rattle.dv_cascade.specs.Chains.{AreExactly};
-ghost use Rattle.dv_cascade.specs.Removal.{is_remove_link, lookup_cmp, EmptiesBy, IsCleared, NamesInto};
+ghost use Rattle.dv_cascade.specs.Removal.{empties_lookups, lookup_cmp, EmptiesBy, IsCleared, NamesInto};
 ghost use Rattle.dv_cascade.specs.Cleared.{Adds, IsSpared, Names};
 
 use crate::blocking::rows_of;
@@ -16,12 +16,12 @@ use sqlite_items::at;
 use std::alloc::{AllocError, Global};
 
 /// Whether a cascade empties lookups.
-fn is_remove_link(cascade: Cascade) -> bool
-    ensures { result ≡ is_remove_link cascade }
+fn empties_lookups(cascade: Cascade) -> bool
+    ensures { result ≡ empties_lookups cascade }
 {
     match cascade {
-        Cascade::RemoveLink => true,
-        _ => false,
+        Cascade::Cascade | Cascade::Restrict => false,
+        _ => true,
     }
 }
 
@@ -117,7 +117,7 @@ fn clear_by(
     ensures { OnOk result (Adds (EmptiesBy store.now.present set.now relationship.now)
         cleared.old cleared.new) }
 {
-    if !is_remove_link(relationship.delete) {
+    if !empties_lookups(relationship.delete) {
         return Ok(());
     }
     clear_into(store, relationship, number, set, cleared)?;

@@ -26,8 +26,13 @@ mod lookups;
 pub use allowing::owner_of;
 pub use blocking::first_restrict;
 pub use cascading::Cascading;
-pub use circling::{parent_of, would_circle};
+pub use circling::{is_parental, parent_of, parental_of, would_circle};
 pub use clearing::links_to_clear;
 pub use closing::closure;
-pub use laws::a_closure_is_the_least_closed_set;
+pub use laws::{
+    a_closure_is_the_least_closed_set, an_accepted_definition_has_one_parent,
+    an_empty_world_has_sound_links, links_are_of_the_rows_alone,
+    new_parents_that_are_not_under_a_row_make_no_circle,
+    rows_that_a_new_parent_reaches_have_owners,
+};
 pub use lookup::LookupKey;
