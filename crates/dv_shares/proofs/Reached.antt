@@ -17,7 +17,8 @@ use Rattle.dv_store.specs.Shapes.{is_owned, place_of}
 use Rattle.dv_store.specs.World.{World, is_there, names}
 use Rattle.dv_cascade.specs.declared.cascading.Cascading.TheVariants.{Reparent}
 use Rattle.dv_cascade.specs.Chains.{is_among, Chain, IsReached}
-use Rattle.dv_cascade.specs.Circles.{hands_on, HasNoCircle, IsUnderParent}
+use Rattle.dv_cascade.specs.Circles.{HasNoCircle, IsUnderParent}
+use Rattle.dv_schema.specs.Sound.{hands_on}
 use Rattle.dv_cascade.specs.Links.{allows, relationship_at, Leads}
 use Rattle.dv_shares.specs.Grants.{can_have_grants}
 use Rattle.dv_shares.proofs.Clearing.{row_is}

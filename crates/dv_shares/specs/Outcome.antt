@@ -1,5 +1,8 @@
 -- What comes of a call: the world that it makes, its earlier states, and its refusals.
-use Rattle.std.specs.Prelude.{◌≡◌, ◌<◌, ◌≤◌, ◌⊎◌}
+use Rattle.std.specs.Prelude.{◌≡◌, ◌<◌, ◌≤◌, ◌⊎◌, Option, None, Some}
+use Rattle.dv_refusal.specs.declared.refusal.Refusal.{Refusal}
+use Rattle.dv_refusal.specs.declared.refusal.Refusal.TheVariants as answer
+use Rattle.dv_refusal.specs.declared.what.What.TheVariants as what
 use Rattle.dv_refusal.specs.declared.what.What.TheVariants.{Grant}
 use Rattle.dv_work.specs.History.{History, Extends}
 use Rattle.dv_store.specs.declared.fault.StoreFault.{StoreFault}
@@ -28,3 +31,9 @@ pub record Passes (IsMade : World → Type 0) : Type 0 where
 -- a refusal to make a world of which something is so: memory ran out, or there is the limit of grants, which it passes
 abbrev pub MayRefuseTo : (World → Type 0) → StoreFault → Type 0
 MayRefuseTo IsMade fault = (fault ≡ OutOfMemory) ⊎ ((fault ≡ Limit Grant) × Passes IsMade)
+
+-- What the limit of grants says of the world that a message would make: where it isn't told, that world is within the
+-- limit, if the one before was; where it is told, that world passes it.
+abbrev pub LimitSays : (World → Type 0) → World → Option Refusal → Type 0
+LimitSays Makes old None = (new : World) × Makes new × StaysWithin old new
+LimitSays Makes old (Some refusal) = (new : World) × Makes new × (most_grants < grant_total new) × (refusal ≡ answer.Limit what.Grant)
