@@ -1,3 +1,4 @@
 pub mod Fitting
+pub mod NamingLaws
 pub mod Owning
 pub mod Walking

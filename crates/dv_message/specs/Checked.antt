@@ -16,6 +16,11 @@ module _ {Check : Type 0} where
   FirstSays Says [] refusal = ⊥
   FirstSays Says (check ∷ checks) refusal = Says check (Some refusal) ⊎ (Says check None × FirstSays Says checks refusal)
 
+  -- what checks in a row say: that all pass, or what the first says that fails
+  abbrev pub FirstOf : (Check → Option Refusal → Type 0) → List Check → Option Refusal → Type 0
+  FirstOf Says checks None = AllPass Says checks
+  FirstOf Says checks (Some refusal) = FirstSays Says checks refusal
+
   -- What comes of a message: where a check fails its refusal, and where all pass what the last check says, which is
   -- made with the answer or the change at hand; else what the message does.
   abbrev pub Judged : (Check → Option Refusal → Type 0) → List Check → (Option Refusal → Type 0) → (Reply → Type 0) → Result Reply Refusal → Type 0
@@ -33,6 +38,11 @@ abbrev pub Answers : {T : Type 0} → (Option Refusal → Type 0) → Result T S
 Answers Says (Ok value) = Says None
 Answers Says (Err (Refused refusal)) = Says (Some refusal)
 Answers Says (Err OutOfMemory) = ⊤
+
+-- what one check and then another say: the second is asked where the first passes
+abbrev pub Both : (Option Refusal → Type 0) → (Option Refusal → Type 0) → Option Refusal → Type 0
+Both First Second None = First None × Second None
+Both First Second (Some refusal) = First (Some refusal) ⊎ (First None × Second (Some refusal))
 
 -- a refusal where a test holds
 abbrev pub refused_if : Bool → Refusal → Option Refusal

@@ -17,6 +17,7 @@ use Rattle.dv_value.specs.Typing.{typed}
 use Rattle.dv_refusal.specs.declared.refusal.Refusal.{Refusal}
 use Rattle.dv_refusal.specs.declared.refusal.Refusal.TheVariants.{UnknownColumn, WrongType, NotWritable, OutOfRange}
 use Rattle.dv_schema.specs.declared.table.Table.{Table}
+use Rattle.dv_schema.specs.Sound.{system_count}
 use Rattle.dv_message.specs.declared.columns.Writing.{Writing}
 use Rattle.dv_message.specs.declared.columns.Writing.TheVariants.{Creation, Update}
 use Rattle.dv_schema.specs.declared.table.Column.{Column}
@@ -26,10 +27,6 @@ use Rattle.dv_schema.specs.declared.table.ColumnRole.TheVariants.{System, Plain,
 -- the column of a name
 abbrev pub column_of : List Column → List ℕ → Option Column
 column_of columns name = find (λ column. bytes_eq column.name name) columns
-
--- how many columns of a table the service keeps itself; one of them is the owner, where rows have owners
-abbrev pub system_count : Bool → ℕ
-system_count owned = if owned then 8 else 7
 
 -- the columns of a table that its definition lists, behind those of the service
 abbrev pub own_columns : Table → List Column
@@ -44,12 +41,11 @@ unfoldable pub open_name : Writing → List ℕ
 open_name Creation = codes "ownerid"
 open_name Update = codes "statecode"
 
--- Whether a request may write a column: those that hold what a request says, and one of the system's. A lookup is none of
--- these, until what it names is checked.
+-- whether a request may write a column: those that hold what a request says, lookups among them, and one of the system's
 unfoldable pub is_written_by : Writing → ColumnRole → List ℕ → Bool
 is_written_by writing Plain name = true
 is_written_by writing System name = bytes_eq name (chars (open_name writing))
-is_written_by writing (Lookup relationship) name = false
+is_written_by writing (Lookup relationship) name = true
 is_written_by writing (Rollup rollup) name = false
 is_written_by writing Companion name = false
 

@@ -1,5 +1,6 @@
 pub mod Checked
 pub mod Columns
+pub mod Lookups
 pub mod Refusing
 pub mod Rights
 pub mod Rows

@@ -34,6 +34,10 @@ pub record Targeted : Type 0 where
 abbrev pub targeted_in : World → Target → Targeted
 targeted_in w t = record { setting = setting_of t.scene; world = w; number = t.number; table = t.table.now; id = t.id }
 
+-- a row that a message names is of the table that the definition has at its number
+abbrev pub IsOfItsTable : Target → Type 0
+IsOfItsTable t = slice_get (tables_of t.scene.definition.now) t.number ≡ Some t.table.now
+
 -- the table of a name, with its number
 unfoldable pub table_at : Definition → List ℕ → Option (ℕ × Table)
 table_at d name = option_and_then (λ number. option_map (λ table. (number, table)) (slice_get (tables_of d) number)) (table_of_bytes d (encode_utf8_all name))

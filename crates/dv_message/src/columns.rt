@@ -65,7 +65,7 @@ fn is_written_by(writing: Writing, role: &ColumnRole, name: &Text) -> bool
     match role {
         ColumnRole::Plain => true,
         ColumnRole::System => is_named(name, open_name(writing)),
-        ColumnRole::Lookup(_) => false,
+        ColumnRole::Lookup(_) => true,
         ColumnRole::Rollup(_) => false,
         ColumnRole::Companion => false,
     }

@@ -1,6 +1,7 @@
 //! Who asks what, of which organisation and when; and the table that a message names.
-ghost use Rattle.std.specs.Prelude.{◌≡◌, Option};
+ghost use Rattle.std.specs.Prelude.{◌≡◌, IfSome, Option, Some, slice_get};
 ghost use Rattle.std.specs.Option.{option_map};
+ghost use Rattle.dv_schema.specs.Definitions.{tables_of};
 ghost use Rattle.dv_message.specs.Scenes.{table_at};
 ghost use Rattle.dv_refusal.specs.declared.refusal.Refusal.{Refusal as Answer};
 ghost use Rattle.dv_refusal.specs.declared.refusal.Refusal.TheVariants as Unknown;
@@ -26,7 +27,10 @@ pub struct Scene<'a> {
 /// The table of a name, with its number.
 #[tactic(auto, unfolding(crate::specs::Scenes::table_at))]
 pub fn table_at<'a>(definition: &'a Definition, name: &Text) -> Option<(u16, &'a Table)>
-    ensures { option_map (λ found. (found.0, found.1.now)) result ≡ table_at definition.now name.now }
+    ensures found { option_map (λ found. (found.0, found.1.now)) result
+        ≡ table_at definition.now name.now }
+    ensures number { IfSome result (λ found.
+        slice_get (tables_of definition.now) found.0 ≡ Some found.1.now) }
 {
     let number = definition.table(name.as_str())?;
     let table = definition.tables().get(usize::from(number))?;
