@@ -12,10 +12,10 @@ use Rattle.dv_store.specs.World.{World}
 use Rattle.dv_store.specs.declared.fault.StoreFault.{StoreFault}
 use Rattle.dv_cascade.specs.declared.cascading.Cascading.TheVariants as reached
 use Rattle.dv_shares.specs.Grants.{granted, revoked, modified}
-use Rattle.dv_shares.specs.Outcome.{MayRefuse, StaysWithin}
+use Rattle.dv_shares.specs.Outcome.{LimitSays, MayRefuse, StaysWithin}
 use Rattle.dv_message.specs.Versions.{stop_of}
 use Rattle.dv_grant.specs.Closures.{key_of, IsClosure}
-use Rattle.dv_grant.specs.Granting.{Granting, mask_of, IsGranted, IsModified, IsStopped, LimitSays, GrantSays, grant_checks, Runs}
+use Rattle.dv_grant.specs.Granting.{Granting, mask_of, IsGranted, IsModified, IsStopped, GrantSays, grant_checks, Runs}
 use Rattle.dv_grant.specs.Revoking.{Revoking, IsRevoked}
 
 pub revoked_as : (r : Revoking) {rows slice : List RowKey} {key : RowKey} → IsClosure r.target reached.Unshare rows → slice ≡ rows → key ≡ key_of r.target

@@ -1,19 +1,18 @@
 -- How rights on a row are granted, and how granted rights are modified: what is checked, in which order, and what becomes
 -- of the grants.
-use Rattle.std.specs.Prelude.{◌≡◌, ◌<◌, ◌==◌, ◌&&◌, ⊤, ℕ, ℤ, pos, negsuc, Bool, true, false, not, List, [], ◌∷◌, Option, Some, None, Result, IsErr, map, chars, codes, nat_lt, nat_le, if◌then◌else◌}
+use Rattle.std.specs.Prelude.{◌≡◌, ◌==◌, ◌&&◌, ⊤, ℕ, ℤ, pos, negsuc, Bool, true, false, not, List, [], ◌∷◌, Option, Some, None, Result, IsErr, map, chars, codes, nat_lt, nat_le, if◌then◌else◌}
 use Rattle.std.specs.Int.RustNames.{bit_and}
 use Rattle.dv_value.specs.declared.id.Id.{Id}
 use Rattle.dv_refusal.specs.declared.refusal.Refusal.{Refusal}
 use Rattle.dv_refusal.specs.declared.refusal.Refusal.TheVariants as answer
-use Rattle.dv_refusal.specs.declared.what.What.TheVariants as what
 use Rattle.dv_schema.specs.declared.opening.Action.{Action}
 use Rattle.dv_schema.specs.declared.opening.Action.TheVariants as action
 use Rattle.dv_store.specs.declared.keys.RowKey.{RowKey}
-use Rattle.dv_store.specs.World.{World, grant_total, most_grants}
+use Rattle.dv_store.specs.World.{World}
 use Rattle.dv_access.specs.Rights.{has_right}
 use Rattle.dv_cascade.specs.declared.cascading.Cascading.TheVariants as reached
 use Rattle.dv_shares.specs.Grants.{granted, modified}
-use Rattle.dv_shares.specs.Outcome.{StaysWithin}
+use Rattle.dv_shares.specs.Outcome.{LimitSays}
 use Rattle.dv_request.specs.declared.reply.Reply.{Reply}
 use Rattle.dv_request.specs.declared.reply.Reply.TheVariants.{Done}
 use Rattle.dv_message.specs.declared.rows.Target.{Target}
@@ -88,12 +87,6 @@ IsGranted g new = (rows : List RowKey) × IsClosure g.target reached.Share rows
 abbrev pub IsModified : Granting → World → Type 0
 IsModified g new = (unshared : List RowKey) × (shared : List RowKey) × IsClosure g.target reached.Unshare unshared × IsClosure g.target reached.Share shared
     × (new ≡ modified unshared shared (key_of g.target) g.principal (mask_of g.rights) g.target.world)
-
--- The limit of grants, of the world that a message would make: where it isn't told, that world is within the limit, if the
--- one before was; where it is told, that world passes it.
-abbrev pub LimitSays : (World → Type 0) → World → Option Refusal → Type 0
-LimitSays Makes old None = (new : World) × Makes new × StaysWithin old new
-LimitSays Makes old (Some refusal) = (new : World) × Makes new × (most_grants < grant_total new) × (refusal ≡ answer.Limit what.Grant)
 
 -- why no world is made: the limit that it would pass, or that memory ran out
 abbrev pub IsStopped : (World → Type 0) → World → Stop → Type 0

@@ -2,7 +2,8 @@
 ghost use Rattle.std.specs.Prelude.{◌≡◌, IfOk, IfErr, OnOk, OnErr, None, Ok, Err};
 ghost use Rattle.dv_work.specs.History.{Extends};
 ghost use Rattle.dv_store.specs.Shapes.{shape_of};
-ghost use Rattle.dv_grant.specs.Granting.{granting_in, IsGranted, IsModified, LimitSays, IsStopped, RunsGrant, RunsModify};
+ghost use Rattle.dv_shares.specs.Outcome.{LimitSays};
+ghost use Rattle.dv_grant.specs.Granting.{granting_in, IsGranted, IsModified, IsStopped, RunsGrant, RunsModify};
 ghost use Rattle.dv_refusal.specs.declared.refusal.Refusal.{Refusal as Answer};
 ghost use Rattle.dv_message.specs.declared.stop.Stop.TheVariants.{Refused};
 
@@ -33,6 +34,7 @@ fn add(
         (IsGranted (granting_in store.old.present target.now principal rights)) store.old.present) }
     ensures extends { OnOk result (Extends store.old store.new) }
     ensures shape { OnOk result (store.new.present.shape ≡ store.old.present.shape) }
+    ensures rows { OnOk result (store.new.present.rows ≡ store.old.present.rows) }
     ensures kept { OnErr result (store.new ≡ store.old) }
 {
     let rows = reached(alloc, store, target, Cascading::Share)?;
@@ -61,6 +63,7 @@ fn replace(
         (IsModified (granting_in store.old.present target.now principal rights)) store.old.present) }
     ensures extends { OnOk result (Extends store.old store.new) }
     ensures shape { OnOk result (store.new.present.shape ≡ store.old.present.shape) }
+    ensures rows { OnOk result (store.new.present.rows ≡ store.old.present.rows) }
     ensures kept { OnErr result (store.new ≡ store.old) }
 {
     let unshared = reached(alloc, store, target, Cascading::Unshare)?;
@@ -99,6 +102,7 @@ pub fn grant(
         (Err refusal) }
     ensures extends { OnOk result (Extends store.old store.new) }
     ensures shape { OnOk result (store.new.present.shape ≡ store.old.present.shape) }
+    ensures rows { OnOk result (store.new.present.rows ≡ store.old.present.rows) }
     ensures kept { OnErr result (store.new ≡ store.old) }
 {
     match judge_all(alloc, store, target, principal, rights, &GRANT_CHECKS) {
@@ -132,6 +136,7 @@ pub fn modify(
         (Err refusal) }
     ensures extends { OnOk result (Extends store.old store.new) }
     ensures shape { OnOk result (store.new.present.shape ≡ store.old.present.shape) }
+    ensures rows { OnOk result (store.new.present.rows ≡ store.old.present.rows) }
     ensures kept { OnErr result (store.new ≡ store.old) }
 {
     match judge_all(alloc, store, target, principal, rights, &GRANT_CHECKS) {

@@ -4,6 +4,7 @@
 //! Callers may rely on this: each call answers as its definition in specs/ says, which names the checks of the message in
 //! the order in which they are made. The first that fails is the refusal, and a refused message leaves the store as it
 //! was. A grant goes to the row itself and, as an inherited one, to the rows that its cascade reaches.
+//! Granting, modifying and revoking change grants alone: every row stays as it was.
 #![tactic(auto)]
 
 mod accessing;

@@ -100,6 +100,7 @@ fn take(
         (IsRevoked (revoking_in store.old.present target.now principal) store.new.present) }
     ensures extends { OnOk result (Extends store.old store.new) }
     ensures shape { OnOk result (store.new.present.shape ≡ store.old.present.shape) }
+    ensures rows { OnOk result (store.new.present.rows ≡ store.old.present.rows) }
     ensures kept { OnErr result (store.new ≡ store.old) }
 {
     let rows = reached(alloc, store, target, Cascading::Unshare)?;
@@ -130,6 +131,7 @@ pub fn revoke(
         (revoking_in store.old.present target.now principal) store.old.present (Err refusal) }
     ensures extends { OnOk result (Extends store.old store.new) }
     ensures shape { OnOk result (store.new.present.shape ≡ store.old.present.shape) }
+    ensures rows { OnOk result (store.new.present.rows ≡ store.old.present.rows) }
     ensures kept { OnErr result (store.new ≡ store.old) }
 {
     match judge_all(alloc, store, target, principal, &REVOKE_CHECKS) {

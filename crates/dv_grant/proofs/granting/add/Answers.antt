@@ -26,3 +26,7 @@ returns-clause-err c =
 pub returns-in-Ok-clause-shape : goal.returns-in-Ok-clause-shape
 unfolding shared
 returns-in-Ok-clause-shape c = ap (λ w. w.shape) c.in-Ok.ensures.ok.present
+
+pub returns-in-Ok-clause-rows : goal.returns-in-Ok-clause-rows
+unfolding shared
+returns-in-Ok-clause-rows c = ap (λ w. w.rows) c.in-Ok.ensures.ok.present

@@ -5,7 +5,8 @@ use Rattle.dv_request.specs.declared.reply.Reply.{Reply}
 use Rattle.dv_message.specs.declared.stop.Stop.{Stop}
 use Rattle.dv_message.specs.declared.stop.Stop.TheVariants.{Refused}
 use Rattle.dv_message.specs.Checked.{AllPass, Walked}
-use Rattle.dv_grant.specs.Granting.{granting_in, GrantSays, grant_checks, IsGranted, IsStopped, LimitSays}
+use Rattle.dv_shares.specs.Outcome.{LimitSays}
+use Rattle.dv_grant.specs.Granting.{granting_in, GrantSays, grant_checks, IsGranted, IsStopped}
 use Rattle.dv_grant.proofs.Making.{is_done, is_refused, is_limited}
 use Rattle.dv_grant.proofs.granting.grant.Goals as goal
 
