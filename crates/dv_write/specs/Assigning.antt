@@ -21,7 +21,7 @@ use Rattle.dv_write.specs.declared.change.Edit.TheVariants.{Set}
 use Rattle.dv_write.specs.declared.change.Placed.{Placed}
 use Rattle.dv_write.specs.declared.assigning.AssignCheck.{AssignCheck}
 use Rattle.dv_write.specs.declared.assigning.AssignCheck.TheVariants as check
-use Rattle.dv_write.specs.Closures.{IsClosure, ReachedSays, Then}
+use Rattle.dv_write.specs.Closures.{work_fault, IsClosure, Next, ReachedSays, Then}
 use Rattle.dv_write.specs.Effects.{applied, first_limit, touched}
 
 -- what an assignment is about: the row that it names, and the new owner
@@ -61,10 +61,12 @@ assign_changes a set = map (assignment_of a.owner a.target.setting) set
 abbrev pub Assigns : Assigning → List RowKey → World → Reply → Type 0
 Assigns a set new reply = (new ≡ applied (assign_changes a set) a.target.world) × (reply ≡ Done)
 
--- what comes of an assignment of the rows that it reaches: the user has to have the right to assign each of them
+-- what comes of an assignment of the rows that it reaches: they may not be too many, and the user has to have the right to
+-- assign each of them
 abbrev pub RunsReached : Assigning → World → Result Reply Refusal → Type 0
 RunsReached a new outcome = (set : List RowKey) × IsClosure a.target cascading.Assign set
-    × Judged (ReachedSays a.target action.Assign) set (λ said. said ≡ first_limit (assign_changes a set) a.target.world) (Assigns a set new) outcome
+    × Next (work_fault set)
+    (Judged (ReachedSays a.target action.Assign) set (λ said. said ≡ first_limit (assign_changes a set) a.target.world) (Assigns a set new)) outcome
 
 -- what comes of an assignment; a refused one leaves the world
 abbrev pub RunsAssign : Assigning → World → Result Reply Refusal → Type 0

@@ -1,28 +1,36 @@
 -- How a row is removed: what is checked, in which order, and which rows go with it.
-use Rattle.std.specs.Prelude.{◌≡◌, ℕ, List, [], ◌∷◌, Option, Result, IsErr, map, slice_get}
+use Rattle.std.specs.Prelude.{◌≡◌, ◌||◌, ℕ, Bool, IsTrue, List, [], ◌∷◌, ◌++◌, Option, Result, IsErr, map, filter, slice_get, if◌then◌else◌}
+use Rattle.std.specs.List.{list_any}
 use Rattle.std.specs.Option.{option_and_then, option_map}
+use Rattle.dv_value.specs.declared.value.Value.TheVariants.{Empty}
 use Rattle.dv_refusal.specs.declared.refusal.Refusal.{Refusal}
 use Rattle.dv_refusal.specs.declared.refusal.Refusal.TheVariants as answer
 use Rattle.dv_schema.specs.declared.definition.Definition.{Definition}
 use Rattle.dv_schema.specs.declared.opening.Action.TheVariants as action
 use Rattle.dv_schema.specs.Definitions.{relationships_of}
 use Rattle.dv_store.specs.declared.keys.RowKey.{RowKey}
+use Rattle.dv_store.specs.Keys.{is_row, row_cmp}
+use Rattle.dv_store.specs.Shapes.{place_of}
 use Rattle.dv_store.specs.World.{World}
 use Rattle.dv_cascade.specs.declared.cascading.Cascading.TheVariants as cascading
-use Rattle.dv_cascade.specs.Removal.{Blocks, IsFirst}
+use Rattle.dv_cascade.specs.declared.lookup.LookupKey.{LookupKey}
+use Rattle.dv_cascade.specs.Chains.{is_among, AreExactly}
+use Rattle.dv_cascade.specs.Removal.{lookup_cmp, Blocks, IsCleared, IsFirst}
 use Rattle.dv_request.specs.declared.reply.Reply.{Reply}
 use Rattle.dv_request.specs.declared.reply.Reply.TheVariants.{Done}
 use Rattle.dv_message.specs.declared.rows.Target.{Target}
 use Rattle.dv_message.specs.Checked.{Judged}
 use Rattle.dv_message.specs.Rights.{RightSays}
 use Rattle.dv_message.specs.Rows.{row_fault}
-use Rattle.dv_message.specs.Scenes.{Targeted, targeted_in}
+use Rattle.dv_message.specs.Scenes.{Setting, Targeted, targeted_in}
 use Rattle.dv_write.specs.declared.change.Change.{Change}
-use Rattle.dv_write.specs.declared.change.Edit.TheVariants.{Remove}
+use Rattle.dv_write.specs.declared.change.Edit.{Edit}
+use Rattle.dv_write.specs.declared.change.Edit.TheVariants.{Remove, Set}
+use Rattle.dv_write.specs.declared.change.Placed.{Placed}
 use Rattle.dv_write.specs.declared.deleting.DeleteCheck.{DeleteCheck}
 use Rattle.dv_write.specs.declared.deleting.DeleteCheck.TheVariants as check
-use Rattle.dv_write.specs.Closures.{IsClosure, ReachedSays, Then}
-use Rattle.dv_write.specs.Effects.{applied, first_limit}
+use Rattle.dv_write.specs.Closures.{work_fault, IsClosure, Next, ReachedSays, Then}
+use Rattle.dv_write.specs.Effects.{applied, first_limit, touched}
 use Rattle.dv_write.specs.Kept.{VersionSays}
 
 -- what a deletion is about: the row that it names, and the version that the row has to be at
@@ -53,25 +61,48 @@ restrict_fault d first = option_and_then (λ number. option_map (λ r. answer.Re
 unfoldable pub BlockSays : Targeted → List RowKey → Option Refusal → Type 0
 BlockSays t set refusal = (first : Option ℕ) × (IsFirst (Blocks t.world t.setting.definition set) first × (refusal ≡ restrict_fault t.setting.definition first))
 
--- a row goes
-abbrev pub removal_of : RowKey → Change
-removal_of key = record { key = key; edit = Remove }
+-- the lookups of rows outside some rows that their removal empties, by table, id and column
+abbrev pub AreEmptied : Targeted → List RowKey → List LookupKey → Type 0
+AreEmptied t set lookups = AreExactly lookup_cmp (IsCleared t.world t.setting.definition set) lookups
 
--- The changes of a deletion of these rows. That rows outside lose their lookups of these rows, where a relationship says
--- so, is left out as yet: no definition that is accepted has lookups.
-abbrev pub delete_changes : List RowKey → List Change
-delete_changes set = map removal_of set
+-- those of one row
+abbrev pub lookups_of : List LookupKey → RowKey → List LookupKey
+lookups_of lookups key = filter (λ lookup. is_row key lookup.row) lookups
 
--- the rows go
-abbrev pub Deletes : Deleting → List RowKey → World → Reply → Type 0
-Deletes d set new reply = (new ≡ applied (delete_changes set) d.target.world) × (reply ≡ Done)
+-- whether a row goes, or loses a lookup
+abbrev pub is_hit : List RowKey → List LookupKey → RowKey → Bool
+is_hit set lookups key = is_among set key || list_any (λ lookup. is_row key lookup.row) lookups
 
--- what comes of a deletion of the rows that it reaches: the user has to have the right to delete each of them, and then
--- nothing may block the removal of them all
+-- an empty lookup
+abbrev pub emptied : LookupKey → Placed
+emptied lookup = record { place = place_of lookup.column; value = Empty }
+
+-- what a deletion does to a row: one of the set goes; another gets its lookups emptied, the user and the moment
+unfoldable pub edit_by : Setting → List RowKey → List LookupKey → RowKey → Edit
+edit_by s set lookups key = if is_among set key then Remove else Set (map emptied (lookups_of lookups key) ++ touched s)
+
+abbrev pub deletion_of : Setting → List RowKey → List LookupKey → RowKey → Change
+deletion_of s set lookups key = record { key = key; edit = edit_by s set lookups key }
+
+-- the changes of a deletion of some rows, by table and id: they go, and rows outside lose the lookups that are emptied
+abbrev pub AreDeletions : Targeted → List RowKey → List Change → Type 0
+AreDeletions t set changes = (lookups : List LookupKey) × (keys : List RowKey) × AreEmptied t set lookups
+    × AreExactly row_cmp (λ key. IsTrue (is_hit set lookups key)) keys × (changes ≡ map (deletion_of t.setting set lookups) keys)
+
+-- the changes are made
+abbrev pub Deletes : Deleting → List Change → World → Reply → Type 0
+Deletes d changes new reply = (new ≡ applied changes d.target.world) × (reply ≡ Done)
+
+-- what comes of the removal of some rows: nothing may block it, and no limit may be passed
+abbrev pub RunsRemoval : Deleting → List RowKey → World → Result Reply Refusal → Type 0
+RunsRemoval d set new outcome = (changes : List Change) × AreDeletions d.target set changes
+    × Judged (BlockSays d.target) (set ∷ []) (λ said. said ≡ first_limit changes d.target.world) (Deletes d changes new) outcome
+
+-- what comes of a deletion of the rows that it reaches: they may not be too many, the user has to have the right to delete
+-- each of them, and then their removal is tried
 abbrev pub RunsReached : Deleting → World → Result Reply Refusal → Type 0
 RunsReached d new outcome = (set : List RowKey) × IsClosure d.target cascading.Delete set
-    × Then (ReachedSays d.target action.Delete) set
-    (Judged (BlockSays d.target) (set ∷ []) (λ said. said ≡ first_limit (delete_changes set) d.target.world) (Deletes d set new)) outcome
+    × Next (work_fault set) (Then (ReachedSays d.target action.Delete) set (RunsRemoval d set new)) outcome
 
 -- what comes of a deletion; a refused one leaves the world
 abbrev pub RunsDelete : Deleting → World → Result Reply Refusal → Type 0

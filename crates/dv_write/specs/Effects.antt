@@ -1,5 +1,5 @@
 -- What an effect makes of a world: rows change one after another, and each takes the next version.
-use Rattle.std.specs.Prelude.{ℕ, ◌+◌, ◌-◌, ◌^◌, pos, List, [], ◌∷◌, Option, None, Some, nat_lt}
+use Rattle.std.specs.Prelude.{◌≡◌, ℕ, ◌+◌, ◌-◌, ◌^◌, pos, List, [], ◌∷◌, Option, None, Some, nat_lt}
 use Rattle.std.specs.Option.{option_or}
 use Rattle.std.specs.FinMap as map
 use Rattle.dv_value.specs.declared.value.Value.{Value}
@@ -85,3 +85,8 @@ modified_on_place = 3
 -- the user and the moment of a change
 abbrev pub touched : Setting → List Placed
 touched s = record { place = modified_by_place; value = value.Ref s.user } ∷ record { place = modified_on_place; value = value.Moment s.moment } ∷ []
+
+-- what limits say one after the other: the one that is computed, or else what the next says
+abbrev pub LimitThen : Option Refusal → (Option Refusal → Type 0) → Option Refusal → Type 0
+LimitThen (Some refusal) Rest said = said ≡ Some refusal
+LimitThen None Rest said = Rest said

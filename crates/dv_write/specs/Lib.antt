@@ -4,3 +4,4 @@ pub mod Closures
 pub mod Updating
 pub mod Assigning
 pub mod Deleting
+pub mod Moving

@@ -4,13 +4,12 @@ ghost use Rattle.dv_store.specs.Keys.{is_row, row_key};
 ghost use Rattle.dv_store.specs.Shapes.{shape_of};
 ghost use Rattle.dv_message.specs.Checked.{Answers, Walked};
 ghost use Rattle.dv_message.specs.Scenes.{targeted_in};
-ghost use Rattle.dv_write.specs.Closures.{table_at_or, IsClosure, ReachedSays};
+ghost use Rattle.dv_write.specs.Closures.{IsClosure, ReachedSays};
 
 use dv_cascade::{Cascading, closure};
-use dv_message::{Stop, Target, check_right};
+use dv_message::{Stop, Target, check_right, of_key};
 use dv_schema::Action;
 use dv_store::{RowKey, Store};
-use sqlite_items::at;
 use std::alloc::{AllocError, Global};
 
 /// The place of the row that a message names.
@@ -48,26 +47,6 @@ fn is_row(a: RowKey, b: RowKey) -> bool
     ensures { result ≡ is_row a b }
 {
     a == b
-}
-
-/// Another row, as if the message named it.
-fn of_key<'a>(target: &Target<'a>, key: RowKey) -> Target<'a>
-    ensures scene { result.scene ≡ target.now.scene }
-    ensures number { result.number ≡ key.table }
-    ensures table { result.table.now ≡ table_at_or target.now.scene.definition.now key.table
-        target.now.table.now }
-    ensures id { result.id ≡ key.id }
-{
-    let table = match at(target.scene.definition.tables(), usize::from(key.table)) {
-        Some(table) => table,
-        None => target.table,
-    };
-    Target {
-        scene: target.scene,
-        number: key.table,
-        table,
-        id: key.id,
-    }
 }
 
 /// Checks that the user may do an action to a row that is reached. The message's own row was judged before.
