@@ -1,6 +1,7 @@
 -- What one request on rows does: the world after it, and its reply or refusal.
 use Rattle.std.specs.Prelude.{◌≡◌, ℕ, ℤ, IsTrue, List, Option, Some, None, Result, Ok, Err}
 use Rattle.dv_value.specs.declared.id.Id.{Id}
+use Rattle.dv_value.specs.declared.raw.Raw.{Raw}
 use Rattle.dv_refusal.specs.declared.refusal.Refusal.{Refusal}
 use Rattle.dv_refusal.specs.declared.refusal.Refusal.TheVariants as refusal
 use Rattle.dv_schema.specs.declared.definition.Definition.{Definition}
@@ -38,10 +39,10 @@ abbrev pub TellsCaller : State → Id → Reply → Type 0
 TellsCaller d user reply = (unit : Id) × (teams : List Id) × (unit_of d.chart user ≡ Some unit) × AreTeams d.chart user teams × (reply ≡ Caller user unit teams)
 
 -- the creation of a row
-unfoldable pub RunsCreation : Option (ℕ × Table) → State → World → Id → ℤ → List ℕ → Option Id → List (List ℕ × Rattle.dv_value.specs.declared.raw.Raw.Raw) → World → Result Reply Refusal → Type 0
-RunsCreation None d old user moment name chosen values new outcome = IsRefused (refusal.UnknownTable name) old new outcome
-RunsCreation (Some found) d old user moment name chosen values new outcome =
-    let c : Creating = record { directory = d; world = old; number = found.0; table = found.1; user = user; moment = moment; chosen = chosen; values = values } in
+unfoldable pub RunsCreation : Option (ℕ × Table) → Setting → World → List ℕ → Option Id → List (List ℕ × Raw) → World → Result Reply Refusal → Type 0
+RunsCreation None s old name chosen values new outcome = IsRefused (refusal.UnknownTable name) old new outcome
+RunsCreation (Some found) s old name chosen values new outcome =
+    let c : Creating = record { setting = s; world = old; number = found.0; table = found.1; chosen = chosen; values = values } in
     RunsCreating c new outcome
 
 -- A query. Of the world it depends on what the caller can see alone, and it changes nothing.
@@ -57,7 +58,7 @@ OnNamed s old name id new outcome Does = OnRow (aimed_at s old name id) name old
 
 -- what a request that is served does
 unfoldable pub Plays : Setting → World → Request → World → Result Reply Refusal → Type 0
-Plays s old (request.Create name chosen values) new outcome = RunsCreation (table_at s.definition name) s.directory old s.user s.moment name chosen values new outcome
+Plays s old (request.Create name chosen values) new outcome = RunsCreation (table_at s.definition name) s old name chosen values new outcome
 Plays s old (request.Retrieve name id names) new outcome = OnNamed s old name id new outcome (λ t. RunsRetrieve (record { target = t; names = names }) outcome × (new ≡ old))
 Plays s old (request.Update name id values version) new outcome = OnNamed s old name id new outcome (λ t. RunsUpdate (record { target = t; values = values; version = version }) new outcome)
 Plays s old (request.Delete name id version) new outcome = OnNamed s old name id new outcome (λ t. RunsDelete (record { target = t; version = version }) new outcome)

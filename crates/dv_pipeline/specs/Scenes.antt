@@ -14,7 +14,7 @@ use Rattle.dv_pipeline.specs.Run.{RunsCreation, RunsQuery, Plays}
 use Rattle.dv_message.specs.declared.scene.Scene.{Scene}
 
 abbrev pub creation_in : Scene → World → List ℕ → Option Id → List (List ℕ × Raw) → World → Result Reply Refusal → Type 0
-creation_in s old name chosen values new outcome = RunsCreation (table_at s.definition.now name) s.directory.now old s.user s.moment name chosen values new outcome
+creation_in s old name chosen values new outcome = RunsCreation (table_at s.definition.now name) (setting_of s) old name chosen values new outcome
 
 abbrev pub query_in : Scene → World → Query → Result Reply Refusal → Type 0
 query_in s old query outcome = RunsQuery (table_at s.definition.now query.table) (sight_of s.directory.now (told_of old) s.user) s.definition.now query outcome
