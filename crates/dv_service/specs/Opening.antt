@@ -32,10 +32,10 @@ kind_word BadRollup = codes "BadRollup"
 kind_word UnknownStep = codes "UnknownStep"
 kind_word BadDirectory = codes "BadDirectory"
 
--- whether a column is a lookup or a rollup, which aren't built yet
+-- whether a column is a rollup, which isn't built yet
 unfoldable pub is_later : ColumnRole → Bool
-is_later (role.Lookup relationship) = true
 is_later (role.Rollup rollup) = true
+is_later (role.Lookup relationship) = false
 is_later role.System = false
 is_later role.Plain = false
 is_later role.Companion = false
@@ -43,7 +43,7 @@ is_later role.Companion = false
 abbrev pub has_later_column : Table → Bool
 has_later_column table = list_any (λ column. is_later column.role) table.columns
 
--- whether a definition has a lookup or a rollup anywhere
+-- whether a definition has a rollup anywhere
 unfoldable pub has_later : Definition → Bool
 has_later definition = list_any has_later_column (tables_of definition)
 
@@ -51,8 +51,7 @@ has_later definition = list_any has_later_column (tables_of definition)
 abbrev pub begun : Definition → State → Organisation
 begun definition directory = record { definition = definition; directory = directory; world = empty definition }
 
--- The line begins this organisation: it is an accepted definition without lookups and rollups, and its directory can
--- be made.
+-- the line begins this organisation: it is an accepted definition without rollups, and its directory can be made
 pub record Begins (line : List ℕ) (org : Organisation) : Type 0 where
   pub bytes : List ℕ
   pub short : within_limit line ≡ Some bytes
@@ -61,7 +60,7 @@ pub record Begins (line : List ℕ) (org : Organisation) : Type 0 where
   pub directory : beginning org.definition ≡ Ok org.directory
   pub begun : org ≡ begun org.definition org.directory
 
--- An accepted definition is refused: it has a lookup or a rollup, or its directory can't be made.
+-- An accepted definition is refused: it has a rollup, or its directory can't be made.
 pub data IsUnfit (definition : Definition) (kind : List ℕ) : Type 0 where
   later : has_later definition ≡ true → kind ≡ codes "NotBuilt" → IsUnfit definition kind
   unmade : (refusal : Refusal) → has_later definition ≡ false → beginning definition ≡ Err refusal → kind ≡ codes "BadDirectory" → IsUnfit definition kind

@@ -10,6 +10,7 @@ use Rattle.dv_request.specs.declared.reply.Reply.TheVariants.{Done}
 use Rattle.dv_request.specs.declared.request.Request.{Request}
 use Rattle.dv_roles.specs.State.{State}
 use Rattle.dv_store.specs.World.{World}
+use Rattle.dv_cascade.specs.Sound.{HasSoundLinks}
 use Rattle.dv_wire.specs.Reads.{Reading, spelled, faulty, reads}
 use Rattle.dv_pipeline.specs.Requests.{is_built}
 use Rattle.dv_pipeline.specs.Run.{Runs}
@@ -37,13 +38,15 @@ abbrev pub reply_of : Result Reply Refusal → Reply
 reply_of (Ok reply) = reply
 reply_of (Err refusal) = refused refusal
 
--- a request on rows changes them, and nothing else, or is refused
+-- a request on rows changes them, and nothing else, or is refused; the links of the rows are sound then: each lookup names
+-- a row that is there, and no row is above itself
 pub record Executes (org : Organisation) (now : ℤ) (user : Id) (request : Request) (reply : Reply) (new : Organisation) : Type 0 where
   pub world : World
   pub outcome : Result Reply Refusal
   pub runs : Runs org.definition org.directory org.world user now request world outcome
   pub told : reply ≡ reply_of outcome
   pub kept : new ≡ with_world org world
+  pub sound : HasSoundLinks world org.definition
 
 unfoldable pub ServesAs : Bool → Organisation → ℤ → Id → Request → Reply → Organisation → Type 0
 ServesAs true org now user request reply new = Manages (managed org.definition org.directory user request) org reply new
