@@ -4,8 +4,10 @@ use std::alloc::{AllocError, Global};
 use std::fs;
 
 // The names of the texts that lines include, and the files that have them.
-const NAMED: [(&str, &str); 4] = [
+const NAMED: [(&str, &str); 6] = [
     ("account", "definitions/account.json"),
+    ("boxes", "definitions/boxes.json"),
+    ("linked_office", "definitions/linked_office.json"),
     ("notes", "definitions/notes.json"),
     ("office", "definitions/office.json"),
     ("short_account", "definitions/short_account.json"),

@@ -16,12 +16,17 @@ use running::first_difference;
 use std::fs;
 
 // The files of scenarios.
-const FILES: [&str; 9] = [
+const FILES: [&str; 14] = [
     "scenarios/access.txt",
+    "scenarios/assignments.txt",
     "scenarios/clock.txt",
+    "scenarios/deletions.txt",
     "scenarios/directory.txt",
     "scenarios/faults.txt",
+    "scenarios/generated.txt",
     "scenarios/lines.txt",
+    "scenarios/lookups.txt",
+    "scenarios/moves.txt",
     "scenarios/one_row.txt",
     "scenarios/opening.txt",
     "scenarios/rows.txt",
