@@ -1,3 +1,5 @@
+pub mod Appending
 pub mod Blocking
 pub mod Limits
+pub mod Settled
 pub mod Shapes

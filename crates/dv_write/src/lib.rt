@@ -11,10 +11,13 @@ mod deleting;
 mod editing;
 mod effect;
 mod kept;
+mod linking;
+mod moving;
 mod reached;
 mod updating;
 
 pub use assigning::assign;
 pub use change::{Change, Edit, Placed};
 pub use deleting::delete;
+pub use moving::settle;
 pub use updating::update;

@@ -3,25 +3,31 @@ ghost use Rattle.std.specs.Prelude.{◌≡◌, ◌++◌, ◌&&◌, IfOk, OnOk, O
 ghost use Rattle.std.specs.Option.{option_copied};
 ghost use Rattle.dv_work.specs.History.{Extends};
 ghost use Rattle.dv_store.specs.Shapes.{place_of};
-ghost use Rattle.dv_message.specs.Checked.{Answers, Walked};
+ghost use Rattle.dv_cascade.specs.Sound.{IsSoundWorld};
+ghost use Rattle.dv_message.specs.Checked.{AllPass, Answers, Walked};
 ghost use Rattle.dv_message.specs.Columns.{first_by_name, is_empty};
+ghost use Rattle.dv_message.specs.Scenes.{IsOfItsTable};
 ghost use Rattle.dv_message.specs.Showing.{value_at};
 ghost use Rattle.dv_message.specs.declared.stop.Stop.TheVariants.{Refused};
 ghost use Rattle.dv_refusal.specs.declared.refusal.Refusal.{Refusal as Answer};
-ghost use Rattle.dv_write.specs.Updating.{missing_fault, missing_from, must_have, placed_from, placed_in, update_changes, update_in, update_values, updated_row, updating_in, RunsUpdate, UpdateSays};
+ghost use Rattle.dv_write.specs.Updating.{missing_fault, missing_from, must_have, named_rows, placed_from, placed_in, update_changes, update_checks, update_in, update_values, updated_row, updating_in, IsUpdated, RunsUpdate, UpdateLimit, UpdateSays};
 
 use crate::change::{Change, Edit, Placed};
 use crate::editing::{add_touched, edited};
 use crate::effect::make;
 use crate::kept::check_version;
+use crate::linking::{check_append, check_circle};
+use crate::moving::settle;
+use crate::reached::key_of;
+use dv_cascade::parent_of;
 use dv_message::{
-    Stop, Target, Writing, check_right, check_row, check_size, check_values, earlier, given_by,
-    is_empty,
+    Naming, Stop, Target, Writing, check_all_named, check_right, check_row, check_size,
+    check_values, earlier, given_by, is_empty, namings,
 };
 use dv_refusal::Refusal;
 use dv_request::Reply;
 use dv_schema::{Action, Column};
-use dv_store::{Row, RowKey, Store};
+use dv_store::{Row, Store};
 use dv_value::{Id, Raw, Values};
 use sqlite_items::Items;
 use std::alloc::{AllocError, Global};
@@ -35,21 +41,30 @@ pub(crate) enum UpdateCheck {
     Row,
     /// The user may write the row.
     Right,
+    /// The user may append the row to each row that its lookups are given; this one is there.
+    Append,
     /// The row is at the version that is said.
     Version,
     /// Each column that must have a value has one in the row as it will be.
     Required,
+    /// Each row that the lookups are given is there.
+    Named,
+    /// No lookup puts the row above itself.
+    Circle,
     /// The row won't be too large.
     Size,
 }
 
 /// The checks, in the order in which they are made.
-const UPDATE_CHECKS: [UpdateCheck; 6] = [
+const UPDATE_CHECKS: [UpdateCheck; 9] = [
     UpdateCheck::Values,
     UpdateCheck::Row,
     UpdateCheck::Right,
+    UpdateCheck::Append,
     UpdateCheck::Version,
     UpdateCheck::Required,
+    UpdateCheck::Named,
+    UpdateCheck::Circle,
     UpdateCheck::Size,
 ];
 
@@ -166,12 +181,14 @@ fn check_required(alloc: Global, id: Id, row: &Row, columns: &[Column]) -> Resul
     }
 }
 
-/// An update: the row that is changed, the values that it is given, and the version that it has to be at.
+/// An update: the row that is changed, the values that it is given, and the version that it has to be at. The rows that
+/// the lookups among the values name are at hand.
 #[derive(Clone, Copy, Drop)]
 pub(crate) struct RowUpdate<'a> {
     pub target: &'a Target<'a>,
     pub values: &'a Values,
     pub version: Option<u64>,
+    pub named: &'a [Naming],
 }
 
 impl RowUpdate<'_> {
@@ -211,7 +228,10 @@ impl RowUpdate<'_> {
         store: &Store,
         check: UpdateCheck,
     ) -> Result<(), Stop>
-        requires { option_copied row ≡ updated_row (update_in store.now.present self.now) }
+        requires row { option_copied row ≡ updated_row (update_in store.now.present self.now) }
+        requires named { self.now.named.now ≡ named_rows (update_in store.now.present self.now) }
+        requires sound { IsSoundWorld self.now.target.now.scene.definition.now
+            store.now.present }
         ensures { Answers (UpdateSays (update_in store.now.present self.now) check) result }
     {
         let target = self.target;
@@ -224,6 +244,7 @@ impl RowUpdate<'_> {
             ),
             UpdateCheck::Row => check_row(alloc, store, target),
             UpdateCheck::Right => check_right(alloc, store, target, Action::Write),
+            UpdateCheck::Append => check_append(alloc, store, target, self.named),
             UpdateCheck::Version => check_version(store, target, self.version),
             UpdateCheck::Required => match row {
                 None => Ok(()),
@@ -231,6 +252,14 @@ impl RowUpdate<'_> {
                     check_required(alloc, target.id, row, target.table.columns.as_slice())
                 }
             },
+            UpdateCheck::Named => check_all_named(alloc, store, target, self.named),
+            UpdateCheck::Circle => check_circle(
+                alloc,
+                store,
+                target.scene.definition,
+                key_of(target),
+                self.named,
+            ),
             UpdateCheck::Size => match row {
                 None => Ok(()),
                 Some(row) => check_size(alloc, row.values.as_slice()),
@@ -247,7 +276,10 @@ impl RowUpdate<'_> {
         store: &Store,
         checks: &[UpdateCheck],
     ) -> Result<(), Stop>
-        requires { option_copied row ≡ updated_row (update_in store.now.present self.now) }
+        requires row { option_copied row ≡ updated_row (update_in store.now.present self.now) }
+        requires named { self.now.named.now ≡ named_rows (update_in store.now.present self.now) }
+        requires sound { IsSoundWorld self.now.target.now.scene.definition.now
+            store.now.present }
         ensures { Walked (UpdateSays (update_in store.now.present self.now)) checks.now result }
     {
         for check in checks {
@@ -272,25 +304,84 @@ impl RowUpdate<'_> {
             ≡ update_changes (update_in store.now.present self.now)) }
     {
         let mut changes = Items::new(alloc);
-        let key = RowKey {
-            table: self.target.number,
-            id: self.target.id,
-        };
         changes.push(Change {
-            key,
+            key: key_of(self.target),
             edit: Edit::Set(placed),
         })?;
         Ok(changes)
     }
 
+    /// Sets the row's values, and hands on that it has another parent then, if it has. Some of this may be made on an
+    /// `Err`.
+    fn set(&self, alloc: Global, store: &mut Store, changes: &[Change]) -> Result<(), Stop>
+        requires changes { changes.now
+            ≡ update_changes (update_in store.old.present self.now) }
+        requires sound { IsSoundWorld self.now.target.now.scene.definition.now
+            store.old.present }
+        requires table { IsOfItsTable self.now.target.now }
+        requires passed { AllPass (UpdateSays (update_in store.old.present self.now))
+            update_checks }
+        ensures ok { OnOk result
+            (IsUpdated (update_in store.old.present self.now) store.new.present) }
+        ensures limit { Answers (UpdateLimit (update_in store.old.present self.now)) result }
+        ensures extends { Extends store.old store.new }
+        ensures shape { OnOk result (store.new.present.shape ≡ store.old.present.shape) }
+        ensures sound { OnOk result (IsSoundWorld self.now.target.now.scene.definition.now
+            store.new.present) }
+    {
+        let target = self.target;
+        let definition = target.scene.definition;
+        let key = key_of(target);
+        let before = parent_of(store, definition, key);
+        match make(alloc, store, changes) {
+            Ok(()) => {}
+            Err(stop) => return Err(stop),
+        }
+        settle(alloc, store, definition, key, before)
+    }
+
+    /// Changes the row and hands this on, whole or not at all.
+    fn change(&self, alloc: Global, store: &mut Store, changes: &[Change]) -> Result<(), Stop>
+        requires changes { changes.now
+            ≡ update_changes (update_in store.old.present self.now) }
+        requires sound { IsSoundWorld self.now.target.now.scene.definition.now
+            store.old.present }
+        requires table { IsOfItsTable self.now.target.now }
+        requires passed { AllPass (UpdateSays (update_in store.old.present self.now))
+            update_checks }
+        ensures ok { OnOk result
+            (IsUpdated (update_in store.old.present self.now) store.new.present) }
+        ensures limit { Answers (UpdateLimit (update_in store.old.present self.now)) result }
+        ensures extends { OnOk result (Extends store.old store.new) }
+        ensures shape { OnOk result (store.new.present.shape ≡ store.old.present.shape) }
+        ensures sound { OnOk result (IsSoundWorld self.now.target.now.scene.definition.now
+            store.new.present) }
+        ensures kept { OnErr result (store.new ≡ store.old) }
+    {
+        let start = store.mark();
+        match self.set(alloc, store, changes) {
+            Ok(()) => Ok(()),
+            Err(stop) => {
+                store.undo_to(start);
+                Err(stop)
+            }
+        }
+    }
+
     /// Makes the update, if each check passes and no limit is passed.
     fn run(&self, alloc: Global, store: &mut Store) -> Result<Reply, Stop>
+        requires named { self.now.named.now ≡ named_rows (update_in store.old.present self.now) }
+        requires sound { IsSoundWorld self.now.target.now.scene.definition.now
+            store.old.present }
+        requires table { IsOfItsTable self.now.target.now }
         ensures ok { IfOk result (λ reply.
             RunsUpdate (update_in store.old.present self.now) store.new.present (Ok reply)) }
         ensures refused { (refusal : Answer) → result ≡ Err (Refused refusal)
             → RunsUpdate (update_in store.old.present self.now) store.old.present (Err refusal) }
         ensures extends { OnOk result (Extends store.old store.new) }
         ensures shape { OnOk result (store.new.present.shape ≡ store.old.present.shape) }
+        ensures sound { OnOk result (IsSoundWorld self.now.target.now.scene.definition.now
+            store.new.present) }
         ensures kept { OnErr result (store.new ≡ store.old) }
     {
         let placed = self.placed(alloc, store)?;
@@ -300,7 +391,7 @@ impl RowUpdate<'_> {
             Err(stop) => return Err(stop),
         }
         let changes = self.changes(alloc, store, placed)?;
-        match make(alloc, store, changes.as_slice()) {
+        match self.change(alloc, store, changes.as_slice()) {
             Ok(()) => Ok(Reply::Done),
             Err(stop) => Err(stop),
         }
@@ -308,7 +399,10 @@ impl RowUpdate<'_> {
 }
 
 /// Changes values of a row, if each check passes and no limit is passed. The user and the moment of the change are kept
-/// in the row, and it takes the next version, also where no values are given.
+/// in the row, and it takes the next version, also where no values are given. Where the row has another parent then, or
+/// none any more, and this is handed on, it and the rows that this reaches inherit anew.
+///
+/// The links of the store are sound, and they stay so. The target is of the table that the definition has at its number.
 ///
 /// # Errors
 ///
@@ -320,6 +414,8 @@ pub fn update(
     values: &Values,
     version: Option<u64>,
 ) -> Result<Reply, Stop>
+    requires sound { IsSoundWorld target.now.scene.definition.now store.old.present }
+    requires table { IsOfItsTable target.now }
     ensures ok { IfOk result (λ reply. RunsUpdate
         (updating_in store.old.present target.now values.now version)
         store.new.present (Ok reply)) }
@@ -328,12 +424,17 @@ pub fn update(
         store.old.present (Err refusal) }
     ensures extends { OnOk result (Extends store.old store.new) }
     ensures shape { OnOk result (store.new.present.shape ≡ store.old.present.shape) }
+    ensures sound { OnOk result (IsSoundWorld target.now.scene.definition.now
+        store.new.present) }
     ensures kept { OnErr result (store.new ≡ store.old) }
 {
+    let columns = target.table.columns.as_slice();
+    let named = namings(alloc, target.scene.definition, columns, values)?;
     let update = RowUpdate {
         target,
         values,
         version,
+        named: named.as_slice(),
     };
     update.run(alloc, store)
 }

@@ -1,0 +1,22 @@
+use Rattle.std.proofs.Common.{◌+◌, drop, get_or, subst, sym}
+use Rattle.std.specs.Prelude.{Err}
+use Rattle.dv_schema.specs.declared.opening.Action.TheVariants as action
+use Rattle.dv_store.specs.Keys.{row_key}
+use Rattle.dv_message.specs.declared.lookups.Naming.{Naming}
+use Rattle.dv_message.specs.Checked.{Answers}
+use Rattle.dv_message.specs.Lookups.{AppendSays}
+use Rattle.dv_message.specs.Rights.{RightSays}
+use Rattle.dv_message.specs.Scenes.{targeted_in}
+use Rattle.dv_message.proofs.Walking.{drop_at}
+use Rattle.dv_write.proofs.Appending.{append_ended}
+use Rattle.dv_write.proofs.linking.check_append.Goals as goal
+
+pub returns-in-Err : goal.returns-in-Err
+returns-in-Err c =
+    let t = targeted_in c.args.store.now.present c.args.target.now in
+    let named = c.args.named.now in
+    let i = c.loop-naming.naming-index in
+    let d : Naming = record { relationship = 0; parent = row_key 0 (record { 0 = 0 }) } in
+    c.loop-naming.invariant (Err c.in-Err.stop)
+    (subst (λ left. Answers {T = Unit {0}} (AppendSays (RightSays t action.Append) t left) (Err c.in-Err.stop)) (sym (drop_at named i d c.loop-naming-test.true))
+    (append_ended (RightSays t action.Append) t (get_or named i d) (drop (i + 1) named) c.in-Err.stop c.in-Err.ensures))
