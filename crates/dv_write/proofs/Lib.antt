@@ -3,3 +3,4 @@ pub mod Blocking
 pub mod Limits
 pub mod Settled
 pub mod Shapes
+pub mod Updated
