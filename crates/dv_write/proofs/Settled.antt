@@ -2,17 +2,15 @@
 use Rattle.std.proofs.Common.{◌≡◌, refl, sym, ap, ◌∙◌, ℕ, suc, Bool, true, false, cond, not, ◌&&◌, List, [], ◌∷◌, inl, inr, is_some}
 use Rattle.std.proofs.lemmas.Bool.{true≢false, eqb-true}
 use Rattle.std.proofs.lemmas.Option.{slice_get-map}
-use Rattle.std.specs.Prelude.{◌⊎◌, ◌==◌, ◌≤◌, IsTrue, Option, None, Some, Result, Ok, Err, find, option_map, slice_get}
+use Rattle.std.specs.Prelude.{◌==◌, IsTrue, Option, None, Some, Result, Ok, Err, find, option_map, slice_get}
 use Rattle.std.specs.Option.{option_map_or}
 use Rattle.std.specs.List.{list_all}
-use Rattle.dv_refusal.specs.declared.refusal.Refusal.TheVariants as answer
 use Rattle.dv_schema.specs.declared.definition.Definition.{Definition}
 use Rattle.dv_schema.specs.declared.relationship.Relationship.{Relationship}
 use Rattle.dv_schema.specs.declared.table.Table.{Table}
 use Rattle.dv_schema.specs.Definitions.{relationships_of, tables_of}
 use Rattle.dv_schema.specs.Sound.{has_owners, hands_on, is_parental}
 use Rattle.dv_store.specs.declared.fault.StoreFault.{StoreFault}
-use Rattle.dv_store.specs.declared.fault.StoreFault.TheVariants as fault
 use Rattle.dv_store.specs.declared.keys.RowKey.{RowKey}
 use Rattle.dv_store.specs.Keys.{row_cmp, is_row}
 use Rattle.dv_store.specs.Shapes.{is_marked, is_owned, shape_of}

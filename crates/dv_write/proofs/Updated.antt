@@ -1,8 +1,8 @@
 -- A row whose values were set: its lookups name rows that are there, and no row is above itself.
-use Rattle.std.proofs.Common.{◌≡◌, ◌⊎◌, ◌≤◌, ◌<◌, ◌+◌, ◌-◌, refl, sym, ap, subst, ◌∙◌, ℕ, zero, suc, Bool, true, false, cond, List, [], ◌∷◌, ◌++◌, inl, inr, is_some, arith}
+use Rattle.std.proofs.Common.{◌≡◌, ◌⊎◌, ◌≤◌, ◌+◌, ◌-◌, refl, sym, ap, subst, ◌∙◌, ℕ, zero, suc, Bool, true, false, cond, List, [], ◌∷◌, ◌++◌, inl, inr, is_some, arith}
 use Rattle.std.proofs.lemmas.Bool.{true≢false, eqb-true, eq-eqb, lt-ltb, ltb-true, ltb-false}
 use Rattle.std.proofs.lemmas.Option.{none-some}
-use Rattle.std.specs.Prelude.{◌==◌, nat_lt, pos, Option, None, Some, Result, option_map, slice_get}
+use Rattle.std.specs.Prelude.{nat_lt, pos, Option, None, Some, Result, option_map, slice_get}
 use Rattle.std.specs.Option.{option_and_then}
 use Rattle.std.specs.FinMap as map
 use Rattle.dv_value.specs.declared.id.Id.{Id}
@@ -10,7 +10,6 @@ use Rattle.dv_value.specs.declared.raw.Raw.{Raw}
 use Rattle.dv_value.specs.declared.value.Value.{Value}
 use Rattle.dv_value.specs.declared.value.Value.TheVariants as value
 use Rattle.dv_value.specs.Raws.{value_of}
-use Rattle.dv_refusal.specs.declared.refusal.Refusal.{Refusal}
 use Rattle.dv_schema.specs.declared.definition.Definition.{Definition}
 use Rattle.dv_schema.specs.declared.relationship.Relationship.{Relationship}
 use Rattle.dv_schema.specs.declared.table.Column.{Column}
@@ -18,14 +17,14 @@ use Rattle.dv_schema.specs.declared.table.ColumnRole.{ColumnRole}
 use Rattle.dv_schema.specs.declared.table.ColumnRole.TheVariants.{Lookup}
 use Rattle.dv_schema.specs.declared.table.Table.{Table}
 use Rattle.dv_schema.specs.Definitions.{relationships_of, tables_of}
-use Rattle.dv_schema.specs.Sound.{is_parental, relationship_at, system_count, IsSoundRole}
+use Rattle.dv_schema.specs.Sound.{relationship_at, system_count, IsSoundRole}
 use Rattle.dv_store.specs.declared.keys.RowKey.{RowKey}
 use Rattle.dv_store.specs.declared.row.Row.{Row}
 use Rattle.dv_store.specs.Keys.{is_row, row_key}
 use Rattle.dv_store.specs.Rolled.{version_place, with_value}
 use Rattle.dv_store.specs.Shapes.{is_owned, place_of}
 use Rattle.dv_store.specs.World.{World, is_id, is_there, named_at, named_by, named_in, row_put}
-use Rattle.dv_cascade.specs.Circles.{parent_of, HasNoCircle, IsNotUnder, IsUnderParent}
+use Rattle.dv_cascade.specs.Circles.{parent_of, IsNotUnder, IsUnderParent}
 use Rattle.dv_cascade.specs.Sound.{HasSoundLinks, IsSoundWorld}
 use Rattle.dv_cascade.proofs.Among.{row_is, row_total}
 use Rattle.dv_cascade.proofs.Relinked.{new_parents}

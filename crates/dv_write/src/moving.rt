@@ -37,12 +37,7 @@ fn is_same(a: Option<RowKey>, b: Option<RowKey>) -> bool
 }
 
 /// Whether a row, which had a parent or none before, has another one now, or none, and this is handed on.
-fn is_moved(
-    store: &Store,
-    definition: &Definition,
-    key: RowKey,
-    before: Option<RowKey>,
-) -> bool
+fn is_moved(store: &Store, definition: &Definition, key: RowKey, before: Option<RowKey>) -> bool
     ensures { result ≡ is_moved definition.now key before store.now.present }
 {
     if !hands_new_parents(definition, key.table) {
