@@ -1,7 +1,7 @@
 //! One request on rows.
 ghost use Rattle.std.specs.Prelude.{◌≡◌, IfOk, IfErr, OnOk, OnErr, Ok, Err, None};
 ghost use Rattle.dv_work.specs.History.{Extends};
-ghost use Rattle.dv_store.specs.Shapes.{shape_of};
+ghost use Rattle.dv_cascade.specs.Sound.{IsSoundWorld};
 ghost use Rattle.dv_pipeline.specs.Requests.{caller_fault};
 ghost use Rattle.dv_pipeline.specs.Run.{TellsCaller, Runs};
 ghost use Rattle.dv_pipeline.specs.Scenes.{creation_in, query_in, play_in};
@@ -36,6 +36,7 @@ fn run_creation(
     chosen: Option<Id>,
     values: &Values,
 ) -> Result<Reply, Stop>
+    requires { IsSoundWorld scene.now.definition.now store.old.present }
     ensures ok { IfOk result (λ reply. creation_in scene.now store.old.present name.now chosen
         values.now store.new.present (Ok reply)) }
     ensures refused { (refusal : Answer) → result ≡ Err (Refused refusal)
@@ -43,17 +44,16 @@ fn run_creation(
         store.old.present (Err refusal) }
     ensures extends { OnOk result (Extends store.old store.new) }
     ensures shape { OnOk result (store.new.present.shape ≡ store.old.present.shape) }
+    ensures sound { OnOk result (IsSoundWorld scene.now.definition.now store.new.present) }
     ensures kept { OnErr result (store.new ≡ store.old) }
 {
     let Some((number, table)) = table_at(scene.definition, name) else {
         return Err(unknown_table(alloc, name));
     };
     let creation = Creation {
-        directory: scene.directory,
+        scene: *scene,
         number,
         table,
-        user: scene.user,
-        moment: scene.moment,
         chosen,
         values,
     };
@@ -102,13 +102,14 @@ fn play(
     request: &Request,
 ) -> Result<Reply, Stop>
     requires enabled { caller_fault scene.now.directory.now scene.now.user ≡ None }
-    requires shape { store.old.present.shape ≡ shape_of scene.now.definition.now }
+    requires sound { IsSoundWorld scene.now.definition.now store.old.present }
     ensures ok { IfOk result (λ reply.
         play_in scene.now store.old.present request.now store.new.present (Ok reply)) }
     ensures refused { (refusal : Answer) → result ≡ Err (Refused refusal)
         → play_in scene.now store.old.present request.now store.old.present (Err refusal) }
     ensures extends { OnOk result (Extends store.old store.new) }
     ensures shape { OnOk result (store.new.present.shape ≡ store.old.present.shape) }
+    ensures sound { OnOk result (IsSoundWorld scene.now.definition.now store.new.present) }
     ensures kept { OnErr result (store.new ≡ store.old) }
 {
     match request {
@@ -158,7 +159,8 @@ fn play(
 }
 
 /// Serves a request on rows at a moment: a message on one row, a query for columns of all rows that the user may read,
-/// or the question who the user is. Directory, definition and store are of one organisation.
+/// or the question who the user is. Directory, definition and store are of one organisation. The links of the store are
+/// sound, and whatever comes of the request, they stay so.
 ///
 /// # Errors
 ///
@@ -174,7 +176,7 @@ pub fn execute(
     moment: i64,
     request: &Request,
 ) -> Result<Reply, Stop>
-    requires { store.old.present.shape ≡ shape_of definition.now }
+    requires sound { IsSoundWorld definition.now store.old.present }
     ensures ok { IfOk result (λ reply. Runs definition.now directory.now store.old.present
         user moment request.now store.new.present (Ok reply)) }
     ensures refused { (refusal : Answer) → result ≡ Err (Refused refusal)
@@ -182,6 +184,7 @@ pub fn execute(
         store.old.present (Err refusal) }
     ensures extends { OnOk result (Extends store.old store.new) }
     ensures shape { OnOk result (store.new.present.shape ≡ store.old.present.shape) }
+    ensures sound { IsSoundWorld definition.now store.new.present }
     ensures kept { OnErr result (store.new ≡ store.old) }
 {
     if let Some(refusal) = start_fault(directory, user, request) {

@@ -2,7 +2,7 @@
 //! table; then the message's own call serves it.
 ghost use Rattle.std.specs.Prelude.{◌≡◌, IfOk, OnOk, OnErr, Ok, Err};
 ghost use Rattle.dv_work.specs.History.{Extends};
-ghost use Rattle.dv_store.specs.Shapes.{shape_of};
+ghost use Rattle.dv_cascade.specs.Sound.{IsSoundWorld};
 ghost use Rattle.dv_message.specs.Scenes.{setting_of};
 ghost use Rattle.dv_pipeline.specs.Run.{Plays};
 ghost use Rattle.dv_refusal.specs.declared.refusal.Refusal.{Refusal as Answer};
@@ -28,6 +28,7 @@ pub(crate) fn run_update(
     values: &Values,
     version: Option<u64>,
 ) -> Result<Reply, Stop>
+    requires { IsSoundWorld scene.now.definition.now store.old.present }
     ensures ok { IfOk result (λ reply. Plays (setting_of scene.now) store.old.present
         (request.Update name.now id values.now version) store.new.present (Ok reply)) }
     ensures refused { (refusal : Answer) → result ≡ Err (Refused refusal)
@@ -35,6 +36,7 @@ pub(crate) fn run_update(
         (request.Update name.now id values.now version) store.old.present (Err refusal) }
     ensures extends { OnOk result (Extends store.old store.new) }
     ensures shape { OnOk result (store.new.present.shape ≡ store.old.present.shape) }
+    ensures sound { OnOk result (IsSoundWorld scene.now.definition.now store.new.present) }
     ensures kept { OnErr result (store.new ≡ store.old) }
 {
     match aim(alloc, scene, name, id) {
@@ -53,7 +55,7 @@ pub(crate) fn run_assign(
     id: Id,
     owner: Id,
 ) -> Result<Reply, Stop>
-    requires { store.old.present.shape ≡ shape_of scene.now.definition.now }
+    requires { IsSoundWorld scene.now.definition.now store.old.present }
     ensures ok { IfOk result (λ reply. Plays (setting_of scene.now) store.old.present
         (request.Assign name.now id owner) store.new.present (Ok reply)) }
     ensures refused { (refusal : Answer) → result ≡ Err (Refused refusal)
@@ -61,6 +63,7 @@ pub(crate) fn run_assign(
         (request.Assign name.now id owner) store.old.present (Err refusal) }
     ensures extends { OnOk result (Extends store.old store.new) }
     ensures shape { OnOk result (store.new.present.shape ≡ store.old.present.shape) }
+    ensures sound { OnOk result (IsSoundWorld scene.now.definition.now store.new.present) }
     ensures kept { OnErr result (store.new ≡ store.old) }
 {
     match aim(alloc, scene, name, id) {
@@ -79,7 +82,7 @@ pub(crate) fn run_delete(
     id: Id,
     version: Option<u64>,
 ) -> Result<Reply, Stop>
-    requires { store.old.present.shape ≡ shape_of scene.now.definition.now }
+    requires { IsSoundWorld scene.now.definition.now store.old.present }
     ensures ok { IfOk result (λ reply. Plays (setting_of scene.now) store.old.present
         (request.Delete name.now id version) store.new.present (Ok reply)) }
     ensures refused { (refusal : Answer) → result ≡ Err (Refused refusal)
@@ -87,6 +90,7 @@ pub(crate) fn run_delete(
         (request.Delete name.now id version) store.old.present (Err refusal) }
     ensures extends { OnOk result (Extends store.old store.new) }
     ensures shape { OnOk result (store.new.present.shape ≡ store.old.present.shape) }
+    ensures sound { OnOk result (IsSoundWorld scene.now.definition.now store.new.present) }
     ensures kept { OnErr result (store.new ≡ store.old) }
 {
     match aim(alloc, scene, name, id) {
@@ -106,7 +110,7 @@ pub(crate) fn run_grant(
     principal: Id,
     rights: i64,
 ) -> Result<Reply, Stop>
-    requires { store.old.present.shape ≡ shape_of scene.now.definition.now }
+    requires { IsSoundWorld scene.now.definition.now store.old.present }
     ensures ok { IfOk result (λ reply. Plays (setting_of scene.now) store.old.present
         (request.Grant name.now id principal rights) store.new.present (Ok reply)) }
     ensures refused { (refusal : Answer) → result ≡ Err (Refused refusal)
@@ -114,6 +118,7 @@ pub(crate) fn run_grant(
         (request.Grant name.now id principal rights) store.old.present (Err refusal) }
     ensures extends { OnOk result (Extends store.old store.new) }
     ensures shape { OnOk result (store.new.present.shape ≡ store.old.present.shape) }
+    ensures sound { OnOk result (IsSoundWorld scene.now.definition.now store.new.present) }
     ensures kept { OnErr result (store.new ≡ store.old) }
 {
     match aim(alloc, scene, name, id) {
@@ -133,7 +138,7 @@ pub(crate) fn run_modify(
     principal: Id,
     rights: i64,
 ) -> Result<Reply, Stop>
-    requires { store.old.present.shape ≡ shape_of scene.now.definition.now }
+    requires { IsSoundWorld scene.now.definition.now store.old.present }
     ensures ok { IfOk result (λ reply. Plays (setting_of scene.now) store.old.present
         (request.Modify name.now id principal rights) store.new.present (Ok reply)) }
     ensures refused { (refusal : Answer) → result ≡ Err (Refused refusal)
@@ -141,6 +146,7 @@ pub(crate) fn run_modify(
         (request.Modify name.now id principal rights) store.old.present (Err refusal) }
     ensures extends { OnOk result (Extends store.old store.new) }
     ensures shape { OnOk result (store.new.present.shape ≡ store.old.present.shape) }
+    ensures sound { OnOk result (IsSoundWorld scene.now.definition.now store.new.present) }
     ensures kept { OnErr result (store.new ≡ store.old) }
 {
     match aim(alloc, scene, name, id) {
@@ -159,7 +165,7 @@ pub(crate) fn run_revoke(
     id: Id,
     principal: Id,
 ) -> Result<Reply, Stop>
-    requires { store.old.present.shape ≡ shape_of scene.now.definition.now }
+    requires { IsSoundWorld scene.now.definition.now store.old.present }
     ensures ok { IfOk result (λ reply. Plays (setting_of scene.now) store.old.present
         (request.Revoke name.now id principal) store.new.present (Ok reply)) }
     ensures refused { (refusal : Answer) → result ≡ Err (Refused refusal)
@@ -167,6 +173,7 @@ pub(crate) fn run_revoke(
         (request.Revoke name.now id principal) store.old.present (Err refusal) }
     ensures extends { OnOk result (Extends store.old store.new) }
     ensures shape { OnOk result (store.new.present.shape ≡ store.old.present.shape) }
+    ensures sound { OnOk result (IsSoundWorld scene.now.definition.now store.new.present) }
     ensures kept { OnErr result (store.new ≡ store.old) }
 {
     match aim(alloc, scene, name, id) {

@@ -48,7 +48,7 @@ returns-in-Ok-clause-within c =
     no_limit k c.put_row.new.self.present put few c.in_default-bump.ensures.within
 
 pub returns-in-Err-fresh_id-clause-err : goal.returns-in-Err-fresh_id-clause-err
-unfolding row_put
+unfolding row_put with_row
 returns-in-Err-fresh_id-clause-err c =
     let k = creating_in c.args.store.now.present c.args.creation.now in
     let put : c.put_row.new.self.present ≡ with_row k = ap (λ h. h.present) c.in_default.ensures.ok ∙ put_is k c.args.id c.args.row c.requires.id c.requires.row in

@@ -3,11 +3,8 @@ use Rattle.std.proofs.lemmas.Int.{to_z-of_z}
 use Rattle.std.proofs.lemmas.Result.{IfOk-weaker}
 use Rattle.dv_message.specs.Scenes.{OnRow}
 use Rattle.dv_pipeline.specs.Run.{Plays}
-use Rattle.dv_pipeline.proofs.Aiming.{of_definition}
+use Rattle.dv_pipeline.proofs.Staying.{stays_sound_on_ok}
 use Rattle.dv_pipeline.proofs.writing.run_grant.Goals as goal
-
-pub grant-requires : goal.grant-requires
-grant-requires c = of_definition c.args.scene.now c.args.store.now.present c.args.name.now c.args.id c.in-Ok.target (c.in-Ok.ensures.ok c.args.store.now.present) _ c.requires
 
 pub returns-in-Ok-clause-ok : goal.returns-in-Ok-clause-ok
 unfolding Plays OnRow
@@ -22,3 +19,6 @@ returns-in-Ok-clause-refused c = λ refusal is.
     let fits : FitsSigned w64 c.args.rights = c.ranges.rights in
     let runs = simp to_z-of_z at (c.grant.ensures.refused refusal is) in
     rw (c.in-Ok.ensures.ok c.args.store.now.present) runs
+
+pub returns-in-Ok-clause-sound : goal.returns-in-Ok-clause-sound
+returns-in-Ok-clause-sound c = stays_sound_on_ok c.args.scene.now.definition.now c.args.store.now.present c.grant.new.store.present c.requires c.grant.result c.grant.ensures.shape c.grant.ensures.rows

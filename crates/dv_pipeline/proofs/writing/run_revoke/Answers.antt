@@ -1,5 +1,5 @@
-use Rattle.dv_pipeline.proofs.Aiming.{of_definition}
+use Rattle.dv_pipeline.proofs.Staying.{stays_sound_on_ok}
 use Rattle.dv_pipeline.proofs.writing.run_revoke.Goals as goal
 
-pub revoke-requires : goal.revoke-requires
-revoke-requires c = of_definition c.args.scene.now c.args.store.now.present c.args.name.now c.args.id c.in-Ok.target (c.in-Ok.ensures.ok c.args.store.now.present) _ c.requires
+pub returns-in-Ok-clause-sound : goal.returns-in-Ok-clause-sound
+returns-in-Ok-clause-sound c = stays_sound_on_ok c.args.scene.now.definition.now c.args.store.now.present c.revoke.new.store.present c.requires c.revoke.result c.revoke.ensures.shape c.revoke.ensures.rows
