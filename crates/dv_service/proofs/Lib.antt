@@ -8,6 +8,7 @@ pub mod Leaving
 pub mod Rolled
 pub mod Runs
 pub mod Served
+pub mod Sounding
 pub mod Splitting
 pub mod Streams
 pub mod Telling

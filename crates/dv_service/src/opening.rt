@@ -3,6 +3,7 @@ ghost use Rattle.std.specs.Prelude.{◌≡◌, ℕ, List, [], Some, Ok, IfOk, If
 ghost use Rattle.std.specs.Prelude.{chars, option_map, false};
 ghost use Rattle.dv_meta.specs.Reader.{IsAccepted};
 ghost use Rattle.dv_roles.specs.Beginning.{beginning};
+ghost use Rattle.dv_schema.specs.Sound.{IsSound};
 ghost use Rattle.dv_store.specs.World.{empty};
 ghost use Rattle.dv_service.specs.Lines.{within_limit};
 ghost use Rattle.dv_service.specs.Opening.{kind_word, is_later, has_later_column, has_later};
@@ -56,14 +57,17 @@ fn kind_word(kind: DefKind) -> &'static str
     }
 }
 
-// Whether a column is one that isn't built yet.
+// Whether a column is a rollup, which isn't built yet.
 #[tactic(auto, unfolding(crate::specs::Opening::is_later))]
 fn is_later(role: &ColumnRole) -> bool
     ensures { result ≡ is_later role.now }
 {
     match role {
-        ColumnRole::Lookup(_) | ColumnRole::Rollup(_) => true,
-        ColumnRole::System | ColumnRole::Plain | ColumnRole::Companion => false,
+        ColumnRole::Rollup(_) => true,
+        ColumnRole::Lookup(_)
+        | ColumnRole::System
+        | ColumnRole::Plain
+        | ColumnRole::Companion => false,
     }
 }
 
@@ -74,7 +78,7 @@ fn has_later_column(table: &Table) -> bool
     columns.iter().any(|column| is_later(&column.role))
 }
 
-// Whether a definition has a column that isn't built yet.
+// Whether a definition has a rollup.
 #[tactic(auto, unfolding(crate::specs::Opening::has_later))]
 fn has_later(definition: &Definition) -> bool
     ensures { result ≡ has_later definition.now }
@@ -103,6 +107,7 @@ fn read(alloc: Global, line: Option<&[u8]>) -> Result<Definition, OpenFault>
     ensures ok { (whole : List ℕ) → option_map (λ held. held.now) line.entry ≡ within_limit whole
         → IfOk result (λ definition. (bytes : List ℕ) × (within_limit whole ≡ Some bytes)
         × IsAccepted bytes 0 definition) }
+    ensures sound { IfOk result IsSound }
     ensures bad { (whole : List ℕ) → option_map (λ held. held.now) line.entry ≡ within_limit whole
         → (kind : List ℕ) (place : List ℕ) → IsErrOf result (OpenFault.Bad kind place)
         → Declines whole kind place }
@@ -122,6 +127,7 @@ fn read(alloc: Global, line: Option<&[u8]>) -> Result<Definition, OpenFault>
 
 // The organisation of a definition and its directory, in which nothing was done.
 fn begun(alloc: Global, definition: Definition, directory: Directory) -> Result<Org, OpenFault>
+    requires { IsSound definition }
     ensures begun { IfOk result (λ org. (org.definition ≡ definition)
         × (org.directory ≡ directory) × (org.world ≡ empty definition)) }
     ensures memory { IfErr result (λ fault. fault ≡ OpenFault.OutOfMemory) }
@@ -134,6 +140,7 @@ fn begun(alloc: Global, definition: Definition, directory: Directory) -> Result<
 
 // Begins the organisation of an accepted definition.
 fn begin_with(alloc: Global, definition: Definition) -> Result<Org, OpenFault>
+    requires { IsSound definition }
     ensures ok { IfOk result (λ org. (org.definition ≡ definition)
         × (has_later definition ≡ false) × (beginning definition ≡ Ok org.directory)
         × (org.world ≡ empty definition)) }

@@ -3,7 +3,7 @@ ghost use Rattle.std.specs.Prelude.{◌≡◌, [], IfOk, OnErr, Result, length};
 ghost use Rattle.dv_pipeline.specs.Run.{Runs};
 ghost use Rattle.dv_work.specs.History.{Extends};
 ghost use Rattle.dv_schema.specs.Definitions.{tables_of};
-ghost use Rattle.dv_store.specs.Shapes.{shape_of};
+ghost use Rattle.dv_cascade.specs.Sound.{IsSoundWorld};
 ghost use Rattle.dv_refusal.specs.declared.refusal.Refusal.{Refusal as Answered};
 ghost use Rattle.dv_request.specs.declared.reply.Reply.{Reply as Told};
 ghost use Rattle.dv_service.specs.Answers.{answer_line};
@@ -24,7 +24,8 @@ use std::alloc::{AllocError, Global};
 use std::marker::Model;
 
 /// An organisation: its definition, its directory and its rows. Between two requests no earlier
-/// state of the rows is kept.
+/// state of the rows is kept, and the links of the rows are sound: each lookup names a row that is
+/// there, and no row is above itself.
 #[derive(Drop)]
 pub struct Org {
     definition: Definition,
@@ -34,7 +35,7 @@ pub struct Org {
 
 impl Model for Org {
     ghost use Rattle.std.specs.Prelude.{◌≡◌, []};
-    ghost use Rattle.dv_store.specs.Shapes.{shape_of};
+    ghost use Rattle.dv_cascade.specs.Sound.{IsSoundWorld};
     ghost use Rattle.dv_service.specs.Organisations.{Organisation, organisation_code};
 
     ghost Value = { Organisation };
@@ -47,7 +48,7 @@ impl Model for Org {
       world = s.store.present;
     } };
 
-    ghost invariant = { λ s. (s.store.earlier ≡ []) × (s.store.present.shape ≡ shape_of s.definition) };
+    ghost invariant = { λ s. (s.store.earlier ≡ []) × IsSoundWorld s.definition s.store.present };
 }
 
 // Executes a request on rows, and prints its reply. On an `Err` a part of it may be done.
@@ -60,12 +61,12 @@ fn run_printed(
     now: i64,
     request: &Request,
 ) -> Result<Vec<u8>, AllocError>
-    requires { store.old.present.shape ≡ shape_of definition.now }
+    requires { IsSoundWorld definition.now store.old.present }
     ensures ok { IfOk result (λ line. (outcome : Result Told Answered)
         × Runs definition.now directory.now store.old.present user now request.now
         store.new.present outcome × (line.items ≡ answer_line (Replied (reply_of outcome)))) }
     ensures extends { Extends store.old store.new }
-    ensures shape { store.new.present.shape ≡ store.old.present.shape }
+    ensures sound { IsSoundWorld definition.now store.new.present }
 {
     match execute(alloc, store, directory, definition, user, now, request) {
         Ok(reply) => reply_line(alloc, &reply),
@@ -75,11 +76,11 @@ fn run_printed(
 }
 
 impl Org {
-    /// An organisation of these parts, which are of one definition. The store keeps no earlier
-    /// state.
+    /// An organisation of these parts, which are of one definition. The links of the store are sound,
+    /// and it keeps no earlier state.
     pub fn new(definition: Definition, directory: Directory, store: Store) -> Org
         requires earlier { store.earlier ≡ [] }
-        requires shape { store.present.shape ≡ shape_of definition }
+        requires sound { IsSoundWorld definition store.present }
         ensures definition { result.definition ≡ definition }
         ensures directory { result.directory ≡ directory }
         ensures world { result.world ≡ store.present }

@@ -24,6 +24,7 @@ returns-in-Ok-clause-ok c =
         runs = runs;
         told = refl;
         kept = ap (λ store. record { definition = c.self.inside.definition; directory = c.self.inside.directory; world = store.present }) c.forget.ensures;
+        sound = c.in-Ok.ensures.sound.links;
       })),
       ran.2,
     )
