@@ -1,8 +1,10 @@
-//! The messages that change rows: an update, an assignment, a deletion.
+//! The messages that change rows: an update, an assignment, a deletion; and what the new parent of a row hands on.
 //!
 //! The request may rest on this: each call answers as its definition in specs/ says, and one that isn't served leaves
 //! the store as it was. The checks of a message stand in one list, in the order in which they are asked. An effect is a
-//! list of changes of rows, by table and id, each of which takes the next version.
+//! list of changes of rows, by table and id, each of which takes the next version. Where a row has another parent once its
+//! values were set, or none any more, [`settle`] hands that on; a creation calls it too. The links of the store are sound
+//! before a call, and after it.
 #![tactic(auto)]
 
 mod assigning;
