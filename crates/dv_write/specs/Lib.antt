@@ -4,4 +4,5 @@ pub mod Closures
 pub mod Updating
 pub mod Assigning
 pub mod Deleting
+pub mod Losing
 pub mod Moving

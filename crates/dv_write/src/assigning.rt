@@ -1,18 +1,18 @@
 //! The change of a row's owner: it is checked, then made, with the rows that it reaches.
 ghost use Rattle.std.specs.Prelude.{◌≡◌, map, IfOk, OnOk, OnErr, Ok, Err};
 ghost use Rattle.dv_work.specs.History.{Extends};
-ghost use Rattle.dv_store.specs.Shapes.{shape_of};
 ghost use Rattle.dv_message.specs.Checked.{Answers, Walked};
 ghost use Rattle.dv_message.specs.Scenes.{setting_of};
 ghost use Rattle.dv_message.specs.declared.stop.Stop.TheVariants.{Refused};
 ghost use Rattle.dv_refusal.specs.declared.refusal.Refusal.{Refusal as Answer};
 ghost use Rattle.dv_request.specs.declared.reply.Reply.TheVariants as reply;
+ghost use Rattle.dv_cascade.specs.Sound.{IsSoundWorld};
 ghost use Rattle.dv_write.specs.Assigning.{assigned, assigning_in, assignment_of, AssignSays, RunsAssign, RunsReached};
 
 use crate::change::{Change, Edit, Placed};
 use crate::editing::add_touched;
 use crate::effect::make;
-use crate::reached::{check_each, reached};
+use crate::reached::{check_each, check_work, reached};
 use dv_cascade::Cascading;
 use dv_message::{
     Scene, Stop, Target, check_right, check_row, check_shareable, is_owner, refused_if,
@@ -123,14 +123,15 @@ fn changes_of(
     Ok(changes)
 }
 
-/// Gives the rows that are reached their owner, if the user may assign each of them and no limit is passed.
+/// Gives the rows that are reached their owner, if they are not too many, the user may assign each of them and no limit is
+/// passed.
 fn assign_reached(
     alloc: Global,
     store: &mut Store,
     target: &Target<'_>,
     owner: Id,
 ) -> Result<(), Stop>
-    requires { store.old.present.shape ≡ shape_of target.now.scene.definition.now }
+    requires sound { IsSoundWorld target.now.scene.definition.now store.old.present }
     ensures ok { OnOk result (RunsReached (assigning_in store.old.present target.now owner)
         store.new.present (Ok reply.Done)) }
     ensures refused { (refusal : Answer) → result ≡ Err (Refused refusal)
@@ -139,8 +140,14 @@ fn assign_reached(
     ensures extends { OnOk result (Extends store.old store.new) }
     ensures shape { OnOk result (store.new.present.shape ≡ store.old.present.shape) }
     ensures kept { OnErr result (store.new ≡ store.old) }
+    ensures sound { OnOk result (IsSoundWorld target.now.scene.definition.now
+        store.new.present) }
 {
     let set = reached(alloc, store, target, Cascading::Assign)?;
+    match check_work(set.as_slice()) {
+        Ok(()) => {}
+        Err(stop) => return Err(stop),
+    }
     match check_each(alloc, store, target, Action::Assign, set.as_slice()) {
         Ok(()) => {}
         Err(stop) => return Err(stop),
@@ -149,20 +156,22 @@ fn assign_reached(
     make(alloc, store, changes.as_slice())
 }
 
-/// Gives a row, and the rows that its assignment reaches, another owner, if each check passes and no limit is passed. The
-/// user and the moment of the change are kept in each of the rows, and each takes the next version, by table and id. The
-/// store is of the definition.
+/// Gives a row, and the rows that its assignment reaches, another owner, if each check passes, they are not too many and no
+/// limit is passed. The user and the moment of the change are kept in each of the rows, and each takes the next version,
+/// by table and id. The store is of the definition, whose lookups name rows that are there, and no row is above itself;
+/// this stays so.
 ///
 /// # Errors
 ///
-/// The first check that fails, or the limit that would be passed; or memory ran out. The store is then as it was.
+/// The first check that fails; more than 20,000 rows beside the message's own; the limit that would be passed; or memory
+/// ran out. The store is then as it was.
 pub fn assign(
     alloc: Global,
     store: &mut Store,
     target: &Target<'_>,
     owner: Id,
 ) -> Result<Reply, Stop>
-    requires { store.old.present.shape ≡ shape_of target.now.scene.definition.now }
+    requires sound { IsSoundWorld target.now.scene.definition.now store.old.present }
     ensures ok { IfOk result (λ reply. RunsAssign
         (assigning_in store.old.present target.now owner) store.new.present (Ok reply)) }
     ensures refused { (refusal : Answer) → result ≡ Err (Refused refusal) → RunsAssign
@@ -170,6 +179,8 @@ pub fn assign(
     ensures extends { OnOk result (Extends store.old store.new) }
     ensures shape { OnOk result (store.new.present.shape ≡ store.old.present.shape) }
     ensures kept { OnErr result (store.new ≡ store.old) }
+    ensures sound { OnOk result (IsSoundWorld target.now.scene.definition.now
+        store.new.present) }
 {
     match judge_all(alloc, store, target, owner, &ASSIGN_CHECKS) {
         Ok(()) => {}

@@ -1,5 +1,5 @@
 //! The removal of a row: it is checked, then made, with the rows that it reaches.
-ghost use Rattle.std.specs.Prelude.{◌≡◌, ◌∷◌, [], map, IfOk, OnOk, OnErr, Ok, Err};
+ghost use Rattle.std.specs.Prelude.{◌≡◌, ◌∷◌, [], IfOk, OnOk, OnErr, Ok, Err};
 ghost use Rattle.dv_work.specs.History.{Extends};
 ghost use Rattle.dv_store.specs.Shapes.{shape_of};
 ghost use Rattle.dv_message.specs.Checked.{Answers, Walked};
@@ -7,13 +7,17 @@ ghost use Rattle.dv_message.specs.Scenes.{targeted_in};
 ghost use Rattle.dv_message.specs.declared.stop.Stop.TheVariants.{Refused};
 ghost use Rattle.dv_refusal.specs.declared.refusal.Refusal.{Refusal as Answer};
 ghost use Rattle.dv_request.specs.declared.reply.Reply.TheVariants as reply;
-ghost use Rattle.dv_write.specs.Deleting.{deleting_in, removal_of, restrict_fault, BlockSays, DeleteSays, RunsDelete, RunsReached};
+ghost use Rattle.dv_cascade.specs.Sound.{IsSoundWorld};
+ghost use Rattle.dv_cascade.specs.declared.cascading.Cascading.TheVariants as cascading;
+ghost use Rattle.dv_write.specs.Closures.{IsClosure};
+ghost use Rattle.dv_write.specs.Deleting.{deleting_in, restrict_fault, AreDeletions, BlockSays, DeleteSays, RunsDelete, RunsReached, RunsRemoval};
 
-use crate::change::{Change, Edit};
+use crate::change::Change;
 use crate::effect::make;
 use crate::kept::check_version;
-use crate::reached::{check_each, reached};
-use dv_cascade::{Cascading, first_restrict};
+use crate::losing::losses;
+use crate::reached::{check_each, check_work, reached};
+use dv_cascade::{Cascading, first_restrict, links_to_clear};
 use dv_message::{Stop, Target, check_right, check_row};
 use dv_refusal::Refusal;
 use dv_request::Reply;
@@ -110,29 +114,62 @@ fn check_blocked(
     tell_restrict(alloc, target.scene.definition, first)
 }
 
-/// The removal of some rows.
-fn changes_of(alloc: Global, set: &[RowKey]) -> Result<Items<Change>, AllocError>
-    ensures { IfOk result (λ changes. changes ≡ map removal_of set.now) }
+/// The changes of the removal of the rows that a deletion reaches: they go, and rows outside lose their lookups of them.
+fn changes_of(
+    alloc: Global,
+    store: &Store,
+    target: &Target<'_>,
+    set: &[RowKey],
+) -> Result<Items<Change>, AllocError>
+    requires shape { store.now.present.shape ≡ shape_of target.now.scene.definition.now }
+    requires closure { IsClosure (targeted_in store.now.present target.now) cascading.Delete
+        set.now }
+    ensures { IfOk result (AreDeletions (targeted_in store.now.present target.now) set.now) }
 {
-    let mut changes = Items::new(alloc);
-    for key in set {
-        changes.push(Change {
-            key: *key,
-            edit: Edit::Remove,
-        })?;
-    }
-    Ok(changes)
+    let lookups = links_to_clear(alloc, store, target.scene.definition, set)?;
+    Ok(losses(alloc, &target.scene, set, lookups.as_slice())?)
 }
 
-/// Removes the rows that are reached, if the user may delete each of them, none is held by a row outside and no limit is
-/// passed.
+/// Removes the rows that a deletion reaches, if none is held by a row outside and no limit is passed. Rows outside lose
+/// their lookups of them.
+fn remove_rows(
+    alloc: Global,
+    store: &mut Store,
+    target: &Target<'_>,
+    version: Option<u64>,
+    set: &[RowKey],
+) -> Result<(), Stop>
+    requires sound { IsSoundWorld target.now.scene.definition.now store.old.present }
+    requires closure { IsClosure (targeted_in store.old.present target.now) cascading.Delete
+        set.now }
+    ensures ok { OnOk result (RunsRemoval (deleting_in store.old.present target.now version)
+        set.now store.new.present (Ok reply.Done)) }
+    ensures refused { (refusal : Answer) → result ≡ Err (Refused refusal)
+        → RunsRemoval (deleting_in store.old.present target.now version)
+        set.now store.old.present (Err refusal) }
+    ensures extends { OnOk result (Extends store.old store.new) }
+    ensures shape { OnOk result (store.new.present.shape ≡ store.old.present.shape) }
+    ensures kept { OnErr result (store.new ≡ store.old) }
+    ensures sound { OnOk result (IsSoundWorld target.now.scene.definition.now
+        store.new.present) }
+{
+    let changes = changes_of(alloc, store, target, set)?;
+    match check_blocked(alloc, store, target, set) {
+        Ok(()) => {}
+        Err(stop) => return Err(stop),
+    }
+    make(alloc, store, changes.as_slice())
+}
+
+/// Removes the rows that are reached, if they are not too many, the user may delete each of them, none is held by a row
+/// outside and no limit is passed.
 fn delete_reached(
     alloc: Global,
     store: &mut Store,
     target: &Target<'_>,
     version: Option<u64>,
 ) -> Result<(), Stop>
-    requires { store.old.present.shape ≡ shape_of target.now.scene.definition.now }
+    requires sound { IsSoundWorld target.now.scene.definition.now store.old.present }
     ensures ok { OnOk result (RunsReached (deleting_in store.old.present target.now version)
         store.new.present (Ok reply.Done)) }
     ensures refused { (refusal : Answer) → result ≡ Err (Refused refusal)
@@ -141,34 +178,38 @@ fn delete_reached(
     ensures extends { OnOk result (Extends store.old store.new) }
     ensures shape { OnOk result (store.new.present.shape ≡ store.old.present.shape) }
     ensures kept { OnErr result (store.new ≡ store.old) }
+    ensures sound { OnOk result (IsSoundWorld target.now.scene.definition.now
+        store.new.present) }
 {
     let set = reached(alloc, store, target, Cascading::Delete)?;
+    match check_work(set.as_slice()) {
+        Ok(()) => {}
+        Err(stop) => return Err(stop),
+    }
     match check_each(alloc, store, target, Action::Delete, set.as_slice()) {
         Ok(()) => {}
         Err(stop) => return Err(stop),
     }
-    match check_blocked(alloc, store, target, set.as_slice()) {
-        Ok(()) => {}
-        Err(stop) => return Err(stop),
-    }
-    let changes = changes_of(alloc, set.as_slice())?;
-    make(alloc, store, changes.as_slice())
+    remove_rows(alloc, store, target, version, set.as_slice())
 }
 
-/// Removes a row, and the rows that its deletion reaches, if each check passes and no limit is passed. Each of them takes
-/// the next version, by table and id, and on a table with tracking leaves a removal of that version. The store is of the
-/// definition.
+/// Removes a row, and the rows that its deletion reaches, if each check passes, they are not too many and no limit is
+/// passed. Each of them takes the next version, by table and id, and on a table with tracking leaves a removal of that
+/// version. Rows outside whose lookups name a removed row lose these lookups, where the relationship says so: they
+/// become empty, the user and the moment of the change are kept, and the row takes its next version in the same order.
+/// The store is of the definition, whose lookups name rows that are there, and no row is above itself; this stays so.
 ///
 /// # Errors
 ///
-/// The first check that fails, or the limit that would be passed; or memory ran out. The store is then as it was.
+/// The first check that fails; more than 20,000 rows beside the message's own; a relationship by which a row outside
+/// holds a row that would go; or the limit that would be passed; or memory ran out. The store is then as it was.
 pub fn delete(
     alloc: Global,
     store: &mut Store,
     target: &Target<'_>,
     version: Option<u64>,
 ) -> Result<Reply, Stop>
-    requires { store.old.present.shape ≡ shape_of target.now.scene.definition.now }
+    requires sound { IsSoundWorld target.now.scene.definition.now store.old.present }
     ensures ok { IfOk result (λ reply. RunsDelete
         (deleting_in store.old.present target.now version) store.new.present (Ok reply)) }
     ensures refused { (refusal : Answer) → result ≡ Err (Refused refusal) → RunsDelete
@@ -176,6 +217,8 @@ pub fn delete(
     ensures extends { OnOk result (Extends store.old store.new) }
     ensures shape { OnOk result (store.new.present.shape ≡ store.old.present.shape) }
     ensures kept { OnErr result (store.new ≡ store.old) }
+    ensures sound { OnOk result (IsSoundWorld target.now.scene.definition.now
+        store.new.present) }
 {
     match judge_all(alloc, store, target, version, &DELETE_CHECKS) {
         Ok(()) => {}

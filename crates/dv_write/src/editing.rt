@@ -1,7 +1,7 @@
 //! Rows with other values at some of their places.
 ghost use Rattle.std.specs.Prelude.{◌≡◌, ◌++◌, slice_set, IfOk, OnOk};
 ghost use Rattle.dv_store.specs.Rolled.{version_place};
-ghost use Rattle.dv_store.specs.Shapes.{is_owned};
+ghost use Rattle.dv_store.specs.Shapes.{is_owned, place_of};
 ghost use Rattle.dv_message.specs.Scenes.{setting_of};
 ghost use Rattle.dv_message.specs.Versions.{next_version};
 ghost use Rattle.dv_write.specs.Effects.{carrying, edited, touched, with_values};
@@ -17,6 +17,20 @@ use std::alloc::{AllocError, Global};
 const MODIFIED_BY_PLACE: usize = 2;
 
 const MODIFIED_ON_PLACE: usize = 3;
+
+/// The number of the id among the columns of a table. Rows leave it out of their values.
+const ID_NUMBER: usize = 2;
+
+/// The place of a column's value among those of a row.
+pub(crate) fn place_of(number: usize) -> usize
+    ensures { result ≡ place_of number }
+{
+    if number > ID_NUMBER {
+        number - 1
+    } else {
+        number
+    }
+}
 
 /// The place of the version among the values of a table's rows.
 pub(crate) fn version_place(store: &Store, table: u16) -> usize

@@ -14,6 +14,7 @@ mod editing;
 mod effect;
 mod kept;
 mod linking;
+mod losing;
 mod moving;
 mod reached;
 mod updating;

@@ -1,13 +1,15 @@
-//! The rows that an assignment or a deletion of a row reaches, and the right to do it to each of them.
+//! The rows that an assignment or a deletion of a row reaches, how many there may be, and the right to do it to each of
+//! them.
 ghost use Rattle.std.specs.Prelude.{◌≡◌, IfOk};
 ghost use Rattle.dv_store.specs.Keys.{is_row, row_key};
 ghost use Rattle.dv_store.specs.Shapes.{shape_of};
 ghost use Rattle.dv_message.specs.Checked.{Answers, Walked};
 ghost use Rattle.dv_message.specs.Scenes.{targeted_in};
-ghost use Rattle.dv_write.specs.Closures.{IsClosure, ReachedSays};
+ghost use Rattle.dv_write.specs.Closures.{work_fault, IsClosure, ReachedSays};
 
 use dv_cascade::{Cascading, closure};
-use dv_message::{Stop, Target, check_right, of_key};
+use dv_message::{Stop, Target, check_right, of_key, refused_if};
+use dv_refusal::Refusal;
 use dv_schema::Action;
 use dv_store::{RowKey, Store};
 use std::alloc::{AllocError, Global};
@@ -42,8 +44,18 @@ pub(crate) fn reached(
     )
 }
 
+/// The most rows beside the message's own that an assignment or a deletion visits.
+const MOST_VISITS: usize = 20_000;
+
+/// Checks that no more rows are reached than one message may visit.
+pub(crate) fn check_work(set: &[RowKey]) -> Result<(), Stop>
+    ensures { Answers (λ said. said ≡ work_fault set.now) result }
+{
+    refused_if(set.len() > MOST_VISITS + 1, Refusal::WorkLimit)
+}
+
 /// Whether two places are one row's.
-fn is_row(a: RowKey, b: RowKey) -> bool
+pub(crate) fn is_row(a: RowKey, b: RowKey) -> bool
     ensures { result ≡ is_row a b }
 {
     a == b
