@@ -1,7 +1,11 @@
 pub mod Appending
+pub mod Behind
 pub mod Blocking
+pub mod Changing
 pub mod Limits
 pub mod Merging
+pub mod Removed
+pub mod Reowned
 pub mod Settled
 pub mod Shapes
 pub mod Updated

@@ -1,9 +1,9 @@
 -- One walk over rows and over lookups, both in order, makes the changes of a deletion.
-use Rattle.std.proofs.Common.{◌≡◌, refl, sym, ap, subst, ◌∙◌, ℕ, zero, suc, ◌+◌, ◌<◌, ◌≤◌, ◌⊎◌, inl, inr, Bool, true, false, cond, List, [], ◌∷◌, ◌++◌, append_assoc, append-nil, length, length-drop, take, drop, map, filter, arith, is_some, nat_eq, eqb-true, one-add, ◌-◌}
+use Rattle.std.proofs.Common.{◌≡◌, refl, sym, ap, subst, ◌∙◌, ℕ, zero, suc, ◌+◌, ◌<◌, ◌⊎◌, inl, inr, Bool, true, false, cond, List, [], ◌∷◌, ◌++◌, append_assoc, append-nil, length, length-drop, take, drop, map, arith, is_some, nat_eq, eqb-true, one-add, ◌-◌}
 use Rattle.std.proofs.lemmas.Bool.{true≢false}
 use Rattle.std.proofs.lemmas.List.Folds.{list_any-append}
 use Rattle.std.specs.Prelude.{IsTrue, ◌||◌, None, Some}
-use Rattle.std.specs.List.{AllByRecursion, list_any, prefix_len}
+use Rattle.std.specs.List.{AllByRecursion, prefix_len}
 use Rattle.std.specs.List.Sorted.{IsStrictlySortedBy}
 use Rattle.std.specs.declared.cmp.Ordering.{Ordering}
 use Rattle.std.specs.declared.cmp.Ordering.TheVariants.{Less, Equal, Greater}
@@ -21,7 +21,7 @@ use Rattle.dv_write.specs.declared.change.Edit.{Edit}
 use Rattle.dv_write.specs.declared.change.Edit.TheVariants.{Remove, Set}
 use Rattle.dv_write.specs.Deleting.{deletion_of, edit_by, emptied, is_hit, lookups_of}
 use Rattle.dv_write.specs.Effects.{touched}
-use Rattle.dv_write.specs.Losing.{edit_of, first_row, is_loser, lesser, AreChanges, AreOrdered}
+use Rattle.dv_write.specs.Losing.{edit_of, first_row, is_loser, AreChanges, AreOrdered}
 
 -- a row is behind another, or not before it
 abbrev After : RowKey → RowKey → Type 0
