@@ -64,10 +64,8 @@ fn is_later(role: &ColumnRole) -> bool
 {
     match role {
         ColumnRole::Rollup(_) => true,
-        ColumnRole::Lookup(_)
-        | ColumnRole::System
-        | ColumnRole::Plain
-        | ColumnRole::Companion => false,
+        ColumnRole::Lookup(_) | ColumnRole::System | ColumnRole::Plain | ColumnRole::Companion =>
+            false,
     }
 }
 
