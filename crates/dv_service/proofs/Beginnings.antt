@@ -14,7 +14,7 @@ use Rattle.dv_meta.specs.Reader.{IsAccepted, first_fault_of}
 use Rattle.dv_roles.specs.Beginning.{beginning}
 use Rattle.dv_roles.specs.State.{State}
 use Rattle.dv_service.specs.Lines.{within_limit}
-use Rattle.dv_service.specs.Opening.{has_later, Begins, Declines, long, faulty, unfit, IsUnfit, later, unmade}
+use Rattle.dv_service.specs.Opening.{has_later, Begins, Declines, long, faulty, later}
 use Rattle.dv_service.specs.Organisations.{Organisation}
 
 none_some : {A : Type 0} (x : A) → None ≡ Some x → ⊥
@@ -52,16 +52,12 @@ one_definition bytes a b first second = same_parts a b
     (first.meaning.steps ∙ sym second.meaning.steps)
     (first.meaning.opening ∙ sym second.meaning.opening)
 
-not_unfit : (org : Organisation) (line kind : List ℕ) → Begins line org → IsUnfit org.definition kind → ⊥
-not_unfit org line kind begins (later is kind_is) = false_true (sym begins.built ∙ is)
-not_unfit org line kind begins (unmade refusal built is kind_is) = ok_err org.directory refusal (sym begins.directory ∙ is)
-
 pub Begins-or-declines : (line : List ℕ) (org : Organisation) (kind place : List ℕ) → Begins line org → Declines line kind place → ⊥
 Begins-or-declines line org kind place begins (long none kind_is place_is) = none_some begins.bytes (sym none ∙ begins.short)
 Begins-or-declines line org kind place begins (faulty bytes fault short is kind_is) =
     let one = same_some begins.bytes bytes (sym begins.short ∙ short) in
     none_some _ (sym begins.accepted.faultless ∙ ap (λ b. first_fault_of b 0) one ∙ is)
-Begins-or-declines line org kind place begins (unfit bytes definition short accepted is place_is) =
+Begins-or-declines line org kind place begins (later bytes definition short accepted is kind_is place_is) =
     let one = same_some begins.bytes bytes (sym begins.short ∙ short) in
     let same_definition = one_definition begins.bytes definition org.definition (subst (λ b. IsAccepted b 0 definition) (sym one) accepted) begins.accepted in
-    not_unfit org line kind begins (subst (λ d. IsUnfit d kind) same_definition is)
+    false_true (sym begins.built ∙ ap has_later (sym same_definition) ∙ is)

@@ -5,6 +5,7 @@ pub mod Faults
 pub mod Held
 pub mod Inputs
 pub mod Leaving
+pub mod OpensWell
 pub mod Rolled
 pub mod Runs
 pub mod Served

@@ -51,7 +51,7 @@ has_later definition = list_any has_later_column (tables_of definition)
 abbrev pub begun : Definition → State → Organisation
 begun definition directory = record { definition = definition; directory = directory; world = empty definition }
 
--- the line begins this organisation: it is an accepted definition without rollups, and its directory can be made
+-- the line begins this organisation: it is an accepted definition without rollups
 pub record Begins (line : List ℕ) (org : Organisation) : Type 0 where
   pub bytes : List ℕ
   pub short : within_limit line ≡ Some bytes
@@ -60,14 +60,9 @@ pub record Begins (line : List ℕ) (org : Organisation) : Type 0 where
   pub directory : beginning org.definition ≡ Ok org.directory
   pub begun : org ≡ begun org.definition org.directory
 
--- An accepted definition is refused: it has a rollup, or its directory can't be made.
-pub data IsUnfit (definition : Definition) (kind : List ℕ) : Type 0 where
-  later : has_later definition ≡ true → kind ≡ codes "NotBuilt" → IsUnfit definition kind
-  unmade : (refusal : Refusal) → has_later definition ≡ false → beginning definition ≡ Err refusal → kind ≡ codes "BadDirectory" → IsUnfit definition kind
-
 -- The line is refused as a definition, with this kind and place: it is too long; or it has a first fault; or it is an
--- accepted definition of which an organisation can't begin.
+-- accepted definition with a rollup.
 pub data Declines (line kind place : List ℕ) : Type 0 where
   long : within_limit line ≡ None → kind ≡ codes "NotJson" → place ≡ [] → Declines line kind place
   faulty : (bytes : List ℕ) (fault : DefKind) → within_limit line ≡ Some bytes → first_fault_of bytes 0 ≡ Some (Bad fault place) → kind ≡ kind_word fault → Declines line kind place
-  unfit : (bytes : List ℕ) (definition : Definition) → within_limit line ≡ Some bytes → IsAccepted bytes 0 definition → IsUnfit definition kind → place ≡ [] → Declines line kind place
+  later : (bytes : List ℕ) (definition : Definition) → within_limit line ≡ Some bytes → IsAccepted bytes 0 definition → has_later definition ≡ true → kind ≡ codes "NotBuilt" → place ≡ [] → Declines line kind place

@@ -1,13 +1,13 @@
 //! The definition line, by which an organisation begins.
 ghost use Rattle.std.specs.Prelude.{◌≡◌, ℕ, List, [], Some, Ok, IfOk, IfErr, IsErrOf};
-ghost use Rattle.std.specs.Prelude.{chars, option_map, false};
+ghost use Rattle.std.specs.Prelude.{chars, codes, option_map, false, true};
 ghost use Rattle.dv_meta.specs.Reader.{IsAccepted};
 ghost use Rattle.dv_roles.specs.Beginning.{beginning};
 ghost use Rattle.dv_schema.specs.Sound.{IsSound};
 ghost use Rattle.dv_store.specs.World.{empty};
 ghost use Rattle.dv_service.specs.Lines.{within_limit};
 ghost use Rattle.dv_service.specs.Opening.{kind_word, is_later, has_later_column, has_later};
-ghost use Rattle.dv_service.specs.Opening.{Begins, Declines, IsUnfit};
+ghost use Rattle.dv_service.specs.Opening.{Begins, Declines};
 
 use crate::org::Org;
 use dv_meta::read_definition;
@@ -105,6 +105,8 @@ fn read(alloc: Global, line: Option<&[u8]>) -> Result<Definition, OpenFault>
     ensures ok { (whole : List ℕ) → option_map (λ held. held.now) line.entry ≡ within_limit whole
         → IfOk result (λ definition. (bytes : List ℕ) × (within_limit whole ≡ Some bytes)
         × IsAccepted bytes 0 definition) }
+    ensures accepted { IfOk result (λ definition. (bytes : List ℕ)
+        × IsAccepted bytes 0 definition) }
     ensures sound { IfOk result IsSound }
     ensures bad { (whole : List ℕ) → option_map (λ held. held.now) line.entry ≡ within_limit whole
         → (kind : List ℕ) (place : List ℕ) → IsErrOf result (OpenFault.Bad kind place)
@@ -136,21 +138,22 @@ fn begun(alloc: Global, definition: Definition, directory: Directory) -> Result<
     }
 }
 
-// Begins the organisation of an accepted definition.
+// Begins the organisation of an accepted definition, whose directory is never refused.
 fn begin_with(alloc: Global, definition: Definition) -> Result<Org, OpenFault>
-    requires { IsSound definition }
+    requires accepted { (bytes : List ℕ) × IsAccepted bytes 0 definition }
+    requires sound { IsSound definition }
     ensures ok { IfOk result (λ org. (org.definition ≡ definition)
         × (has_later definition ≡ false) × (beginning definition ≡ Ok org.directory)
         × (org.world ≡ empty definition)) }
     ensures bad { (kind : List ℕ) (place : List ℕ) → IsErrOf result (OpenFault.Bad kind place)
-        → IsUnfit definition kind × (place ≡ []) }
+        → (has_later definition ≡ true) × (kind ≡ codes "NotBuilt") × (place ≡ []) }
 {
     if has_later(&definition) {
         return Err(whole_fault(alloc, "NotBuilt"));
     }
     match Directory::begin(alloc, &definition) {
         Ok(directory) => begun(alloc, definition, directory),
-        Err(DirFault::Refused(_)) => Err(whole_fault(alloc, "BadDirectory")),
+        Err(DirFault::Refused(_)) => unreachable!(),
         Err(DirFault::OutOfMemory) => Err(OpenFault::OutOfMemory),
     }
 }

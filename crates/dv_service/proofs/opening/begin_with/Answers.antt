@@ -3,7 +3,7 @@ use Rattle.std.proofs.lemmas.Result.{IfOk-weaker}
 use Rattle.std.specs.Str.{chars}
 use Rattle.dv_roles.specs.Beginning.{beginning}
 use Rattle.dv_units.specs.Outcome.{IsFaultOf}
-use Rattle.dv_service.specs.Opening.{later, unmade}
+use Rattle.dv_service.proofs.OpensWell.{opens_well}
 use Rattle.dv_service.proofs.Faults.{same_error, memory_not_bad, only_memory}
 use Rattle.dv_service.proofs.opening.begin_with.Goals as goal
 
@@ -13,7 +13,7 @@ returns-then-has_later-clause-ok c = tt
 pub returns-then-has_later-clause-bad : goal.returns-then-has_later-clause-bad
 returns-then-has_later-clause-bad c = λ kind place is.
     let both = c.whole_fault.ensures kind place (same_error _ _ is) in
-    (later (sym c.has_later.ensures ∙ c.if-has_later.true) both.0, both.1)
+    (sym c.has_later.ensures ∙ c.if-has_later.true, both.0, both.1)
 
 pub returns-in-Ok-clause-ok : goal.returns-in-Ok-clause-ok
 returns-in-Ok-clause-ok c = IfOk-weaker c.begun.result _ _ (λ org e. (
@@ -26,21 +26,12 @@ returns-in-Ok-clause-ok c = IfOk-weaker c.begun.result _ _ (λ org e. (
 pub returns-in-Ok-clause-bad : goal.returns-in-Ok-clause-bad
 returns-in-Ok-clause-bad c = λ kind place is. absurd (only_memory c.begun.result kind place c.begun.ensures.memory is)
 
-pub returns-in-Err-Refused-clause-ok : goal.returns-in-Err-Refused-clause-ok
-returns-in-Err-Refused-clause-ok c = tt
-
-pub returns-in-Err-Refused-clause-bad : goal.returns-in-Err-Refused-clause-bad
-returns-in-Err-Refused-clause-bad c = λ kind place is.
-    let both = c.whole_fault-in-Err-Refused.ensures kind place (same_error _ _ is) in (
-      unmade c.in-Err-Refused.field-0-0 (sym c.has_later.ensures ∙ c.if-has_later.false)
-          (subst (IsFaultOf (beginning c.args.definition)) c.in-Err-Refused.field-0-is c.in-Err-Refused.ensures.err) both.0,
-      both.1,
-    )
+pub unreachable-requires : goal.unreachable-requires
+unreachable-requires c =
+    let memory = c.in-Err-Refused.ensures.never (opens_well c.requires.accepted.0 c.args.definition c.requires.accepted.1) in
+    absurd (cc)
 
 pub whole_fault-requires : goal.whole_fault-requires
 unfolding chars
 whole_fault-requires c = refl
 
-pub whole_fault-requires-in-Err-Refused : goal.whole_fault-requires-in-Err-Refused
-unfolding chars
-whole_fault-requires-in-Err-Refused c = refl
