@@ -1,6 +1,6 @@
 -- A first line begins an organisation, or is refused, and not both.
 use Rattle.std.proofs.Math.Bridge.{le_prop}
-use Rattle.std.proofs.Common.{◌≡◌, ◌≤◌, length, ℕ, Bool, true, false, List, Option, Some, None, Result, Ok, Err, refl, sym, ap, ◌∙◌, subst}
+use Rattle.std.proofs.Common.{◌≡◌, ◌≤◌, length, ℕ, true, false, List, Some, None, Ok, Err, sym, ap, ◌∙◌, subst}
 use Rattle.dv_refusal.specs.declared.refusal.Refusal.{Refusal}
 use Rattle.dv_schema.specs.declared.definition.Definition.{Definition}
 use Rattle.dv_schema.specs.declared.opening.Opening.{Opening}
@@ -8,12 +8,8 @@ use Rattle.dv_schema.specs.declared.registration.Registration.{Registration}
 use Rattle.dv_schema.specs.declared.relationship.Relationship.{Relationship}
 use Rattle.dv_schema.specs.declared.table.Table.{Table}
 use Rattle.dv_schema.specs.Limits.{most_tables}
-use Rattle.dv_schema.specs.Form.{draft_in}
-use Rattle.dv_meta.specs.Accepted.{IsDefinitionOf}
 use Rattle.dv_meta.specs.Reader.{IsAccepted, first_fault_of}
-use Rattle.dv_roles.specs.Beginning.{beginning}
 use Rattle.dv_roles.specs.State.{State}
-use Rattle.dv_service.specs.Lines.{within_limit}
 use Rattle.dv_service.specs.Opening.{has_later, Begins, Declines, long, faulty, later}
 use Rattle.dv_service.specs.Organisations.{Organisation}
 

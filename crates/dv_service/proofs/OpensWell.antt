@@ -1,33 +1,31 @@
 -- The opening directory of an accepted definition breaks none of its rules.
-use Rattle.std.proofs.Common.{◌≡◌, ◌∙◌, refl, sym, ap, subst, ℕ, zero, suc, ◌+◌, Bool, true, false, cond, List, [], ◌∷◌, map, Option, Some, None, slice_get, arith, true≢false}
+use Rattle.std.proofs.Common.{◌≡◌, ◌∙◌, refl, sym, ap, subst, ℕ, suc, ◌+◌, Bool, true, false, cond, List, [], ◌∷◌, map, Option, Some, None, slice_get, arith}
 use mathlib.Core.Path.{fun_ext}
-use Rattle.std.specs.Prelude.{◌≢◌, ◌==◌, ◌||◌, not, codes, find, length, nat_lt, option_map, option_and_then, unwrap_or}
+use Rattle.std.specs.Prelude.{◌≢◌, ◌==◌, ◌||◌, not, codes, find, option_map, option_and_then, unwrap_or}
 use Rattle.std.specs.List.{list_any}
-use Rattle.std.specs.Option.{option_or, is_some}
+use Rattle.std.specs.Option.{option_or}
 use Rattle.std.proofs.lemmas.Bool.Decides.{nat_tests}
 use Rattle.serde_json.specs.Data.{Data, null, boolean, number, string, array, object}
-use Rattle.serde_json.specs.Find.{as_object, get}
+use Rattle.serde_json.specs.Find.{get}
 use Rattle.dv_value.specs.Json.{json_of}
 use Rattle.dv_value.specs.declared.id.Id.{Id}
-use Rattle.dv_form.specs.Forms.{Form, Member, real_id, value, object_of, is_same_id}
-use Rattle.dv_form.specs.Members.{at, id_in, id_of_json, members_in}
+use Rattle.dv_form.specs.Forms.{Member, real_id, value, object_of, is_same_id}
+use Rattle.dv_form.specs.Members.{id_in, id_of_json, members_in}
 use Rattle.dv_form.specs.Spellings.{is_spelled, passes}
-use Rattle.dv_form.specs.Walk.{Violation, decided, fault_at, form_fault as fault_of_form, first_fault as walked, inside, is_excluded, is_excluded_by, judged_member, judged_object, members_fault}
+use Rattle.dv_form.specs.Walk.{Violation, decided, fault_at, form_fault as fault_of_form, first_fault as walked, is_excluded, is_excluded_by, judged_member, judged_object, members_fault}
 use Rattle.dv_form.proofs.Faultless.{or_none, member_free, plain_free}
 use Rattle.dv_form.proofs.Faults.{fault_at_get}
 use Rattle.dv_schema.specs.Form.{draft_in, fault_in, fault_of_read, form_fault, told}
 use Rattle.dv_schema.specs.First.{first_from}
-use Rattle.dv_schema.specs.Grammar.{schemas, definition, needs, needs_unless}
-use Rattle.dv_schema.specs.Limits.{most_bytes}
+use Rattle.dv_schema.specs.Grammar.{schemas, needs, needs_unless}
 use Rattle.dv_schema.specs.Names.{Name, place_of, same_name}
 use Rattle.dv_schema.specs.Reading.{draft_of, opening_of as read_opening}
-use Rattle.dv_schema.specs.Definitions.{opening_of, tables_of}
+use Rattle.dv_schema.specs.Definitions.{tables_of}
 use Rattle.dv_schema.specs.declared.definition.Definition.{Definition}
 use Rattle.dv_schema.specs.declared.draft.Draft.{Draft}
 use Rattle.dv_schema.specs.declared.draft.DraftTable.{DraftTable}
 use Rattle.dv_schema.specs.declared.grammar.Rule.{Rule}
 use Rattle.dv_schema.specs.declared.grammar.Rule.TheVariants as rule
-use Rattle.dv_schema.specs.declared.opening.Opening.{Opening}
 use Rattle.dv_opening.specs.Opening.{bad_directory}
 use Rattle.dv_meta.specs.Accepted.{table_of}
 use Rattle.dv_meta.specs.Faults.{first_fault, of_kind, refusal_of}
@@ -40,7 +38,7 @@ use Rattle.dv_meta.specs.Rollups.{bad_rollup}
 use Rattle.dv_meta.specs.Steps.{unknown_step}
 use Rattle.dv_meta.specs.UnknownName.{unknown_name}
 use Rattle.dv_schema.specs.declared.place.Place.{Place}
-use Rattle.dv_meta.specs.Named.{owned, table_named, table_names}
+use Rattle.dv_meta.specs.Named.{owned, table_named}
 use Rattle.dv_meta.specs.Reader.{IsAccepted}
 use Rattle.dv_meta.proofs.FoundLaws.{option_map-none}
 use Rattle.dv_meta.proofs.NumbersLaws.{same_name-sym}

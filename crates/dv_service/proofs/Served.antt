@@ -1,5 +1,5 @@
 -- How a line is served by what it reads, and how its reply is told.
-use Rattle.std.proofs.Common.{◌≡◌, ◌⊎◌, ℕ, ℤ, Bool, true, false, List, Result, Ok, Err, IfOk, IfErr, IsErrOf, inl, inr, refl, sym}
+use Rattle.std.proofs.Common.{◌≡◌, ℕ, ℤ, Bool, true, false, List, Result, Ok, Err, IfOk, IfErr, IsErrOf, inl, inr, refl}
 use Rattle.dv_base.specs.Clock.{ClockState, IsInRange, Ticks}
 use Rattle.dv_base.specs.Faults.{Rose}
 use Rattle.dv_value.specs.declared.id.Id.{Id}

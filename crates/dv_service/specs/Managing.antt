@@ -1,5 +1,5 @@
 -- The messages that change the directory: who may send them, and what each makes of it.
-use Rattle.std.specs.Prelude.{Bool, true, false, ◌||◌, Option, Some, None, Result, Ok, Err, codes, if◌then◌else◌}
+use Rattle.std.specs.Prelude.{Bool, true, false, ◌||◌, Option, Some, None, Result, Err, codes, if◌then◌else◌}
 use Rattle.dv_value.specs.declared.id.Id.{Id}
 use Rattle.dv_refusal.specs.declared.refusal.Refusal.{Refusal}
 use Rattle.dv_refusal.specs.declared.refusal.Refusal.TheVariants.{Denied, NotBuilt}

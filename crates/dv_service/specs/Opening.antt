@@ -1,7 +1,6 @@
 -- The first line begins an organisation, or is refused as a definition.
-use Rattle.std.specs.Prelude.{◌≡◌, ◌⊎◌, ℕ, Bool, true, false, List, [], Option, Some, None, Result, Ok, Err, codes}
+use Rattle.std.specs.Prelude.{◌≡◌, ℕ, Bool, true, false, List, [], Some, None, Ok, codes}
 use Rattle.std.specs.List.{list_any}
-use Rattle.dv_refusal.specs.declared.refusal.Refusal.{Refusal}
 use Rattle.dv_schema.specs.declared.definition.Definition.{Definition}
 use Rattle.dv_schema.specs.declared.fault.DefFault.TheVariants.{Bad}
 use Rattle.dv_schema.specs.declared.fault.DefKind.{DefKind}

@@ -1,4 +1,4 @@
-use Rattle.std.proofs.Common.{◌≡◌, ◌∙◌, sym, subst, ap, false, Err}
+use Rattle.std.proofs.Common.{◌∙◌, sym, subst, ap, Err}
 use Rattle.std.proofs.lemmas.Result.{IfOk-weaker}
 use Rattle.dv_meta.specs.Reader.{IsAccepted}
 use Rattle.dv_roles.specs.Beginning.{beginning}

@@ -1,10 +1,8 @@
-use Rattle.std.proofs.Common.{◌≡◌, refl, sym, ◌∙◌, subst, ap, Ok}
+use Rattle.std.proofs.Common.{refl, sym, ◌∙◌, ap, Ok}
 use Rattle.std.proofs.lemmas.Result.{IfOk-weaker}
 use Rattle.std.specs.Str.{chars}
-use Rattle.dv_roles.specs.Beginning.{beginning}
-use Rattle.dv_units.specs.Outcome.{IsFaultOf}
 use Rattle.dv_service.proofs.OpensWell.{opens_well}
-use Rattle.dv_service.proofs.Faults.{same_error, memory_not_bad, only_memory}
+use Rattle.dv_service.proofs.Faults.{same_error, only_memory}
 use Rattle.dv_service.proofs.opening.begin_with.Goals as goal
 
 pub returns-then-has_later-clause-ok : goal.returns-then-has_later-clause-ok
@@ -34,4 +32,3 @@ unreachable-requires c =
 pub whole_fault-requires : goal.whole_fault-requires
 unfolding chars
 whole_fault-requires c = refl
-
